@@ -1,0 +1,42 @@
+-- A clock as the list of its dots, and document 01's operations on it.
+use Prim.Native.Nat.{ℕ, zero, suc, compare, max, min, Ordering}
+use mathlib.Core.Path.{_≡_, refl}
+use mathlib.Core.Bool.{Bool, true, false, _&&_}
+use mathlib.Core.Option.{Option, none, some}
+use mathlib.Core.List.{List, [], _∷_, map}
+use lib.Dec.{leb, ltb, eqb}
+use Rattle.tables.specs.Order.{Order, lex, lex-order}
+use Rattle.tables.specs.Table.{get, pick, every, collect}
+use Rattle.tables.specs.Zip.{zip}
+use Rattle.dots.specs.declared.Dot.{Dot}
+use Rattle.dots.specs.Dot.{actorOf, clocks, cmpDot, dot-order}
+
+abbrev pub Clock : Type 0
+Clock = List Dot
+
+-- the counter of an actor; "a missing actor counts 0"
+abbrev pub count : Clock → ℕ → ℕ
+count c a = get clocks c a
+
+-- "covers a dot if its counter for that actor is at least the dot's; it covers a clock if it covers all of its dots"
+unfoldable pub covers : Clock → Clock → Bool
+covers v c = every (λ d. leb (d .counter) (count v (actorOf d))) c
+
+-- "`merge` does so for every dot": the larger counter per actor
+unfoldable pub merged : Clock → Clock → Clock
+merged c d = zip clocks (λ a. max) c d
+
+-- "`apply` raises the actor's counter to the dot's if that is larger"
+unfoldable pub applied : Clock → Dot → Clock
+applied c d = merged c (d ∷ [])
+
+-- "`reset_remove` by c drops each actor whose counter c covers"
+unfoldable pub resetBy : Clock → Clock → Clock
+resetBy c x = collect (λ d. pick (ltb (count c (actorOf d)) (d .counter)) (some d) none) x
+
+-- the image's order: "pairs compared in turn, actor then counter; a proper prefix first"
+abbrev pub cmpClock : Clock → Clock → Ordering
+cmpClock = lex cmpDot
+
+pub clock-order : Order cmpClock
+clock-order = lex-order cmpDot dot-order

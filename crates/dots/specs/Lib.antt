@@ -1,0 +1,2 @@
+pub mod Dot
+pub mod Clock

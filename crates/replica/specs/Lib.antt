@@ -1,0 +1,12 @@
+pub mod Truth
+pub mod Replica
+pub mod Rules
+pub mod ByDots
+pub mod Dots
+pub mod Laws
+pub mod Wf
+pub mod Limits
+pub mod Literal
+pub mod Member
+pub mod Cases
+pub mod Main

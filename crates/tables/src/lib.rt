@@ -1,0 +1,1 @@
+// Theory only: orders, sorted tables and what a loop over them needs, in specs/.
