@@ -1,5 +1,5 @@
 -- A clock as the list of its dots, and document 01's operations on it.
-use Prim.Native.Nat.{ℕ, zero, suc, compare, max, min, Ordering}
+use Prim.Native.Nat.{ℕ, zero, suc, _+_, compare, max, min, Ordering}
 use mathlib.Core.Path.{_≡_, refl}
 use mathlib.Core.Bool.{Bool, true, false, _&&_}
 use mathlib.Core.Option.{Option, none, some}
@@ -9,6 +9,7 @@ use Rattle.tables.specs.Order.{Order, lex, lex-order}
 use Rattle.tables.specs.Table.{get, pick, every, collect}
 use Rattle.tables.specs.Zip.{zip}
 use Rattle.dots.specs.declared.Dot.{Dot}
+use Rattle.dots.specs.declared.DotRange.{DotRange}
 use Rattle.dots.specs.Dot.{actorOf, clocks, cmpDot, dot-order}
 
 abbrev pub Clock : Type 0
@@ -40,3 +41,7 @@ cmpClock = lex cmpDot
 
 pub clock-order : Order cmpClock
 clock-order = lex-order cmpDot dot-order
+
+-- "`validate_op` refuses a dot above get + 1, with start get + 1 and end the dot's counter, end excluded"
+unfoldable pub gap : Clock → Dot → Option DotRange
+gap c d = pick (ltb (count c (actorOf d) + 1) (d .counter)) (some (record { actor = d .actor; start = count c (actorOf d) + 1; end = d .counter })) none
