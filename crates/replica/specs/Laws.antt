@@ -64,7 +64,7 @@ merged-holds A B h g m a n =
     ap (λ (x : ℕ). eqb x (suc n)) (merged-count A B m a)
     ∙ one-dot (count (entry A m) a) (count (entry B m) a) (count (A .clock) a) (count (B .clock) a) (killed A m a) (killed B m a) (h .within m a) (g .within m a) n
 
-leb-max : (n x y : ℕ) → leb n (max x y) ≡ (leb n x || leb n y)
+pub leb-max : (n x y : ℕ) → leb n (max x y) ≡ (leb n x || leb n y)
 leb-max n x y = go (leb n x) (leb n y) refl refl
   where
     go : (a b : Bool) → leb n x ≡ a → leb n y ≡ b → leb n (max x y) ≡ (a || b)

@@ -5,6 +5,7 @@ pub mod ByDots
 pub mod Dots
 pub mod Laws
 pub mod Wf
+pub mod Kills
 pub mod Limits
 pub mod Literal
 pub mod Member
