@@ -7,6 +7,7 @@ use mathlib.Core.List.{List, [], _∷_, map}
 use lib.Dec.{leb, ltb, eqb}
 use Rattle.tables.specs.Order.{Order, lex, lex-order}
 use Rattle.tables.specs.Table.{get, pick, every, collect}
+use Rattle.tables.specs.Ascending.{ascending}
 use Rattle.tables.specs.Zip.{zip}
 use Rattle.dots.specs.declared.Dot.{Dot}
 use Rattle.dots.specs.declared.DotRange.{DotRange}
@@ -19,9 +20,20 @@ Clock = List Dot
 abbrev pub count : Clock → ℕ → ℕ
 count c a = get clocks c a
 
--- "covers a dot if its counter for that actor is at least the dot's; it covers a clock if it covers all of its dots"
+-- "A clock is normalised: actors strictly ascending, no zero counter"
+unfoldable pub normal : Clock → Bool
+normal c = ascending compare (map (λ d. actorOf d) c) && every (λ d. ltb 0 (d .counter)) c
+
+unfoldable pub filled : Clock → Bool
+filled [] = false
+filled (d ∷ c) = true
+
+-- "A clock *covers* a dot if its counter for that actor is at least the dot's; it covers a clock if it covers all of its dots."
+abbrev pub coversDot : Clock → Dot → Bool
+coversDot v d = leb (d .counter) (count v (actorOf d))
+
 unfoldable pub covers : Clock → Clock → Bool
-covers v c = every (λ d. leb (d .counter) (count v (actorOf d))) c
+covers v c = every (coversDot v) c
 
 -- "`merge` does so for every dot": the larger counter per actor
 unfoldable pub merged : Clock → Clock → Clock
@@ -33,7 +45,7 @@ applied c d = merged c (d ∷ [])
 
 -- "`reset_remove` by c drops each actor whose counter c covers"
 unfoldable pub resetBy : Clock → Clock → Clock
-resetBy c x = collect (λ d. pick (ltb (count c (actorOf d)) (d .counter)) (some d) none) x
+resetBy c x = collect (λ d. pick (coversDot c d) none (some d)) x
 
 -- the image's order: "pairs compared in turn, actor then counter; a proper prefix first"
 abbrev pub cmpClock : Clock → Clock → Ordering

@@ -5,11 +5,13 @@ use mathlib.Core.Bool.{true, false}
 use Prim.Native.Nat.{ℕ}
 use Rattle.tables.specs.Zip.{zip}
 use Rattle.dots.specs.Dot.{dot}
-use Rattle.dots.specs.Clock.{Clock, covers, merged, resetBy}
+use Rattle.dots.specs.Clock.{Clock, covers, merged, resetBy, normal, filled}
 use Rattle.replica.specs.Replica.{Entry, Wait, Replica, holds, seen, killed}
 use Rattle.replica.specs.Rules.{unite, merge, stay, stayAt, staying, removeFrom, removesFrom, settle, joinWaits}
 use Rattle.replica.specs.ByDots.{byDots, liveAt, live}
-use Rattle.replica.specs.Wf.{sound, tests, entryTests, waitTests, alls, normal, filled, spared, ascending, before}
+use Rattle.replica.specs.Wf.{sound, tests, entryTests, waitTests, spared}
+use Rattle.tables.specs.Table.{alls}
+use Rattle.tables.specs.Ascending.{ascending, before}
 
 -- A has added 7 by (1, 1) and 8 by (1, 2); B has seen (1, 1) and removed it, and waits for a remove of 8 up to (1, 2), (3, 1)
 abbrev A : Replica

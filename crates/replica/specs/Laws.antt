@@ -18,6 +18,7 @@ use Rattle.replica.specs.Truth.{lives, stays, assoc-law, rest, sane}
 use Rattle.dots.specs.declared.Dot.{Dot}
 use Rattle.dots.specs.Dot.{clocks, actorOf}
 use Rattle.dots.specs.Clock.{Clock, count, covers, merged}
+use Rattle.dots.specs.ClockLaws.{covers-le, not-covers, merged-count, merged-normal}
 use Rattle.replica.specs.Replica.{Entry, Wait, Replica, entries, waits, memberSets, entry, waitAt, holds, seen, kills, killed}
 use Rattle.replica.specs.Rules.{unite}
 use Rattle.replica.specs.ByDots.{live, liveAt, byDots, Fine}
@@ -27,18 +28,11 @@ pick-all true b′ p q = p
 pick-all false true p q = q
 pick-all false false p q = refl
 
--- 1. extensionality
-
-pub clock-ext : (c d : Clock) → Normal clocks c → Normal clocks d → ((a : ℕ) → count c a ≡ count d a) → c ≡ d
-clock-ext = ext clocks
-
 -- 2. byDots, point by point
 
 pub merged-clock : (A B : Replica) (a : ℕ) → count ((byDots A B) .clock) a ≡ max (count (A .clock) a) (count (B .clock) a)
-unfolding byDots merged zip
-merged-clock A B a =
-    get-join clocks (λ a. max (count (A .clock) a) (count (B .clock) a)) (A .clock) (B .clock)
-    (λ a e f. omega arith) a
+unfolding byDots
+merged-clock A B a = merged-count (A .clock) (B .clock) a
 
 pub merged-entry : (A B : Replica) (m : ℕ) → entry (byDots A B) m ≡ join clocks (liveAt A B m) (entry A m) (entry B m)
 unfolding byDots
@@ -46,9 +40,9 @@ merged-entry A B m =
     get-join entries (λ m. join clocks (liveAt A B m) (entry A m) (entry B m)) (A .entries) (B .entries)
     (λ m e f. ap₂ (join clocks (liveAt A B m)) e f) m
 
-pub merged-count : (A B : Replica) (m a : ℕ) → count (entry (byDots A B) m) a ≡ liveAt A B m a
+pub live-count : (A B : Replica) (m a : ℕ) → count (entry (byDots A B) m) a ≡ liveAt A B m a
 unfolding liveAt
-merged-count A B m a =
+live-count A B m a =
     ap (λ (c : Clock). count c a) (merged-entry A B m)
     ∙ get-join clocks (liveAt A B m) (entry A m) (entry B m) (λ a e f. pick-all (live A B m a (count (entry A m) a)) (live A B m a (count (entry B m) a)) e f) a
 
@@ -61,7 +55,7 @@ merged-wait A B c =
 pub merged-holds : (A B : Replica) → Fine A → Fine B → (m a n : ℕ) → holds (byDots A B) m a (suc n) ≡ live A B m a (suc n)
 unfolding holds live liveAt seen
 merged-holds A B h g m a n =
-    ap (λ (x : ℕ). eqb x (suc n)) (merged-count A B m a)
+    ap (λ (x : ℕ). eqb x (suc n)) (live-count A B m a)
     ∙ one-dot (count (entry A m) a) (count (entry B m) a) (count (A .clock) a) (count (B .clock) a) (killed A m a) (killed B m a) (h .within m a) (g .within m a) n
 
 pub leb-max : (n x y : ℕ) → leb n (max x y) ≡ (leb n x || leb n y)
@@ -103,23 +97,6 @@ killed-to A m a n c t s = go (find (waits .cmp) (waits .key) c (A .waiting)) ref
     go (some w) e t =
         any-to (waits .cmp) (waits .order) (waits .key) (kills m a n) c (A .waiting) w e
         (and-i (get memberSets (w .members) m) (leb n (count (w .clock) a)) t (subst (λ (d : Clock). T (leb n (count d a))) (find-key (waits .cmp) (waits .order) (waits .key) c (A .waiting) w e) s))
-
-pub covers-le : (v c : Clock) → T (covers v c) → (a : ℕ) → count c a ≤ count v a
-unfolding covers
-covers-le v c t a = go (find compare (clocks .key) a c) refl
-  where
-    go : (o : Option Dot) → find compare (clocks .key) a c ≡ o → clocks .val o ≤ count v a
-    go none e = omega arith
-    go (some d) e =
-        let k = find-all compare nat-order (clocks .key) (λ d. T (leb (d .counter) (count v (actorOf d)))) a c d (every-all (λ d. leb (d .counter) (count v (actorOf d))) c t) e in
-        rw (find-key compare nat-order (clocks .key) a c d e) (leb→le (d .counter) (count v (actorOf d)) k)
-
-pub le-covers : (v c : Clock) → Normal clocks c → ((a : ℕ) → count c a ≤ count v a) → T (covers v c)
-unfolding covers
-le-covers v c h f = all-every (λ d. leb (d .counter) (count v (actorOf d))) c
-    (all-map (λ d. find compare (clocks .key) (actorOf d) c ≡ some d) (λ d. T (leb (d .counter) (count v (actorOf d)))) c
-    (λ d e. le→leb (d .counter) (count v (actorOf d)) (subst (λ (o : Option Dot). clocks .val o ≤ count v (actorOf d)) e (f (actorOf d))))
-    (all-find compare nat-order (clocks .key) c (h .asc)))
 
 merged-waiting-ok : (A B : Replica) → Fine B → Normal waits ((byDots A B) .waiting)
 unfolding byDots
@@ -185,8 +162,8 @@ kept-some true o ms e = absurd (false≢true (ap isSome e))
 kept-some false o ms e = e
 
 merged-clock-ok : (A B : Replica) → Fine B → Normal clocks ((byDots A B) .clock)
-unfolding byDots merged zip
-merged-clock-ok A B g = normal-join clocks (λ a. max (count (A .clock) a) (count (B .clock) a)) (A .clock) (B .clock) (g .clock-ok)
+unfolding byDots
+merged-clock-ok A B g = merged-normal (A .clock) (B .clock) (g .clock-ok)
 
 merged-entries-ok : (A B : Replica) → Fine B → Normal entries ((byDots A B) .entries)
 unfolding byDots
@@ -195,7 +172,7 @@ merged-entries-ok A B g = normal-join entries (λ m. join clocks (liveAt A B m) 
 merged-within : (A B : Replica) → Fine A → Fine B → (m a : ℕ) → count (entry (byDots A B) m) a ≤ count ((byDots A B) .clock) a
 unfolding liveAt
 merged-within A B h g m a =
-    rw (merged-count A B m a, merged-clock A B a)
+    rw (live-count A B m a, merged-clock A B a)
     (pick-le (live A B m a (count (entry A m) a)) (live A B m a (count (entry B m) a)) (count (entry A m) a) (count (entry B m) a) (count (A .clock) a) (count (B .clock) a) (h .within m a) (g .within m a))
 
 merged-free : (A B : Replica) → Fine A → Fine B → (m a n : ℕ) → T (holds (byDots A B) m a (suc n)) → T (killed (byDots A B) m a (suc n)) → ⊥
@@ -345,20 +322,6 @@ merge-self A h f = same (byDots A A) A (merge-fine A A h h) h clock
     go c (some ms) e = rw (f c ms e)
 
 -- 5. associativity
-
-covers-mono : (v w c : Clock) → ((a : ℕ) → count v a ≤ count w a) → T (covers v c) → T (covers w c)
-unfolding covers
-covers-mono v w c f t = all-every (λ d. leb (d .counter) (count w (actorOf d))) c
-    (all-map (λ d. T (leb (d .counter) (count v (actorOf d)))) (λ d. T (leb (d .counter) (count w (actorOf d)))) c
-    (λ d k. le→leb (d .counter) (count w (actorOf d)) (le-trans (leb→le (d .counter) (count v (actorOf d)) k) (f (actorOf d))))
-    (every-all (λ d. leb (d .counter) (count v (actorOf d))) c t))
-
-not-covers : (v w c : Clock) → ((a : ℕ) → count v a ≤ count w a) → covers w c ≡ false → covers v c ≡ false
-not-covers v w c f e = go (covers v c) refl
-  where
-    go : (b : Bool) → covers v c ≡ b → covers v c ≡ false
-    go true u = absurd (rw e at (covers-mono v w c f (rw u tt)))
-    go false u = u
 
 module _ (A B C : Replica) (f : Fine A) (g : Fine B) (h : Fine C) where
   clock-assoc : (a : ℕ) → count ((byDots (byDots A B) C) .clock) a ≡ count ((byDots A (byDots B C)) .clock) a

@@ -11,56 +11,17 @@ use borrow.Author.Tests.{eq-eqb, eqb-true, ltb-true, ltb-false, leb-true, leb-fa
 use Rattle.tables.specs.Order.{nat-order, lex, lex-order}
 use Rattle.tables.specs.Table.{Kind, get, Normal, Proper, join, isSome, pick, find, All, any, collect, after, all-collect, all-sift, find-key, find-all, asc-sift, find-sift, ext, normal-join, get-join, pick-both}
 use Rattle.tables.specs.Zip.{zip}
-use Rattle.tables.specs.Truth.{or-l, or-r, or-e}
+use Rattle.tables.specs.Truth.{or-l, or-r, or-e, bool-ext}
 use Rattle.replica.specs.Truth.{lives, stays}
 use Rattle.replica.specs.Dots.{one-dot}
 use Rattle.dots.specs.declared.Dot.{Dot}
 use Rattle.dots.specs.Dot.{clocks, counterOf, actorOf}
 use Rattle.dots.specs.Clock.{Clock, count, covers, cmpClock, clock-order, merged, resetBy}
+use Rattle.dots.specs.ClockLaws.{reset-normal, reset-dot}
 use Rattle.replica.specs.Replica.{Entry, Wait, Replica, entries, waits, memberSets, entry?, entry-key, entry-val, clockOf, entry, waitAt, holds, seen, kills, killed}
 use Rattle.replica.specs.Rules.{unite, merge, stay, stayAt, staying, removeFrom, removesFrom, settle, joinWaits}
 use Rattle.replica.specs.ByDots.{live, liveAt, byDots, Fine}
 use Rattle.replica.specs.Laws.{pick-all, names, killed-from, killed-to, names-unite, merged-holds, merged-wait, merge-fine, nat-ext}
-
--- ---- reset
-
-dropped : (b : Bool) (d e : Dot) → pick b (some d) none ≡ some e → e ≡ d
-dropped true d e p = cc
-dropped false d e p = absurd (false≢true (ap isSome p))
-
-reset-normal : (w c : Clock) → Normal clocks c → Normal clocks (resetBy w c)
-unfolding resetBy
-reset-normal w c h = record {
-  asc = asc-sift compare nat-order (clocks .key) (λ d. pick (ltb (count w (actorOf d)) (d .counter)) (some d) none) (λ d e p. ap (λ (x : Dot). actorOf x) (dropped (ltb (count w (actorOf d)) (d .counter)) d e p)) c (h .asc);
-  proper = all-sift (Proper clocks) (Proper clocks) (λ d. pick (ltb (count w (actorOf d)) (d .counter)) (some d) none) c (λ d e k p. subst (Proper clocks) (sym (dropped (ltb (count w (actorOf d)) (d .counter)) d e p)) k) (h .proper);
-}
-
-reset-nat : (x y n : ℕ) → eqb (pick (ltb y x) x 0) (suc n) ≡ (eqb x (suc n) && not (leb (suc n) y))
-reset-nat x y n = go (ltb y x) refl (eqb x (suc n)) refl
-  where
-    go : (b : Bool) → ltb y x ≡ b → (c : Bool) → eqb x (suc n) ≡ c → eqb (pick b x 0) (suc n) ≡ (c && not (leb (suc n) y))
-    go true u true v = let h = ltb-true y x u in let k = eqb-true x (suc n) v in v ∙ rw (lt-leb (suc n) y (omega arith))
-    go true u false v = v
-    go false u true v = let h = ltb-false y x u in let k = eqb-true x (suc n) v in eqb·zero-suc n ∙ rw (le-leb (suc n) y (omega arith))
-    go false u false v = eqb·zero-suc n
-
-counterOf-pick : (b : Bool) (d : Dot) → counterOf (pick b (some d) none) ≡ pick b (d .counter) 0
-counterOf-pick true d = refl
-counterOf-pick false d = refl
-
-reset-count : (w c : Clock) → Normal clocks c → (a : ℕ) → count (resetBy w c) a ≡ pick (ltb (count w a) (count c a)) (count c a) 0
-unfolding resetBy
-reset-count w c h a =
-    ap counterOf (find-sift compare nat-order (clocks .key) (λ d. pick (ltb (count w (actorOf d)) (d .counter)) (some d) none) (λ d e p. ap (λ (x : Dot). actorOf x) (dropped (ltb (count w (actorOf d)) (d .counter)) d e p)) a c (h .asc))
-    ∙ go (find compare (clocks .key) a c) refl
-  where
-    go : (o : Option Dot) → find compare (clocks .key) a c ≡ o → counterOf (after o (λ d. pick (ltb (count w (actorOf d)) (d .counter)) (some d) none)) ≡ pick (ltb (count w a) (counterOf o)) (counterOf o) 0
-    go none e = sym (pick-both (ltb (count w a) 0) 0)
-    go (some d) e = rw (find-key compare nat-order (clocks .key) a c d e) (counterOf-pick (ltb (count w (actorOf d)) (d .counter)) d)
-
--- one dot of a clock that is reset
-reset-dot : (w c : Clock) → Normal clocks c → (a n : ℕ) → eqb (count (resetBy w c) a) (suc n) ≡ (eqb (count c a) (suc n) && not (leb (suc n) (count w a)))
-reset-dot w c h a n = rw (reset-count w c h a) (reset-nat (count c a) (count w a) n)
 
 -- ---- remove
 
@@ -139,12 +100,6 @@ removes-dot (w ∷ ws) es h m a n =
     nor false b c = refl
 
 -- ---- the byDots
-
-bool-ext : (a b : Bool) → (T a → T b) → (T b → T a) → a ≡ b
-bool-ext true true f g = refl
-bool-ext true false f g = absurd (f tt)
-bool-ext false true f g = absurd (g tt)
-bool-ext false false f g = refl
 
 joined-get : (A B : Replica) (c : Clock) → get waits (joinWaits (A .waiting) (B .waiting)) c ≡ unite (waitAt A c) (waitAt B c)
 unfolding joinWaits zip unite

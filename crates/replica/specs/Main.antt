@@ -12,7 +12,7 @@ use Rattle.dots.specs.Clock.{Clock, count, covers}
 use Rattle.replica.specs.Replica.{Replica, waitAt, holds}
 use Rattle.replica.specs.Rules.{merge}
 use Rattle.replica.specs.ByDots.{byDots, Fine}
-use Rattle.replica.specs.Laws.{clock-ext, same, merge-fine, merge-comm, merge-self, merge-assoc}
+use Rattle.replica.specs.Laws.{same, merge-fine, merge-comm, merge-self, merge-assoc}
 use Rattle.replica.specs.Wf.{sound, wf-fine, fine-wf}
 use Rattle.replica.specs.Literal.{literal}
 use Rattle.replica.specs.Member.{isIn, Kept, member-law}

@@ -12,7 +12,7 @@ use lib.Arith.{lt→nleb}
 use borrow.Author.Tests.{eq-eqb}
 use Rattle.tables.specs.Order.{nat-order, self}
 use Rattle.tables.specs.Table.{get, Normal, isSome, find, find-all, find-key, Proper, All}
-use Rattle.tables.specs.Truth.{and-l, and-r, and-i, or-l, or-r, or-e}
+use Rattle.tables.specs.Truth.{and-l, and-r, and-i, or-l, or-r, or-e, nor-l, nor-r, nor-i}
 use Rattle.replica.specs.Truth.{stays}
 use Rattle.dots.specs.declared.Dot.{Dot}
 use Rattle.dots.specs.Dot.{clocks, dot?, counterOf, actorOf}
@@ -125,18 +125,6 @@ stays-comm true true sA sB t = tt
 stays-comm true false sA sB t = or-e (not sB) false t (λ u. u) (λ u. absurd u)
 stays-comm false true sA sB t = or-l (not sA) false t
 stays-comm false false sA sB t = absurd t
-
-nor-l : (a b : Bool) → T (not (a || b)) → T (not a)
-nor-l true b t = t
-nor-l false b t = tt
-
-nor-r : (a b : Bool) → T (not (a || b)) → T (not b)
-nor-r true b t = absurd t
-nor-r false b t = t
-
-nor-i : (a b : Bool) → T (not a) → T (not b) → T (not (a || b))
-nor-i true b s t = s
-nor-i false b s t = t
 
 kept-from : (A B : Replica) (m a n : ℕ) → T (live A B m a (suc n)) → Kept A B m
 unfolding live

@@ -10,74 +10,20 @@ use native.Mathlib.Nat.{not-suc-le-zero}
 use lib.Dec.{T, T-not, not-T, leb, ltb, eqb, leb→le, le→leb, lt→ltb, ltb→lt, nleb→lt, eqb→eq}
 use borrow.Author.Tests.{eq-eqb}
 use Rattle.tables.specs.Order.{Order, nat-order, lex, lex-order, self}
-use Rattle.tables.specs.Table.{Kind, get, Normal, isSome, find, find-all, find-key, all-find, all-map, every-all, all-every, any-from, any-to, Proper, All, Asc, Below, below-trans, every, any}
+use Rattle.tables.specs.Table.{Kind, get, Normal, isSome, find, find-all, find-key, all-find, all-map, every-all, all-every, any-from, any-to, Proper, All, Asc, Below, every, any, alls, alls-from, alls-to, all-any, all-both, map-id}
+use Rattle.tables.specs.Ascending.{ascending, asc-from, asc-to}
 use Rattle.tables.specs.Truth.{and-l, and-r, and-i, or-l, or-r, or-e}
 use Rattle.dots.specs.declared.Dot.{Dot}
 use Rattle.dots.specs.Dot.{clocks, dot?, counterOf, actorOf, dot}
-use Rattle.dots.specs.Clock.{Clock, count, covers, cmpClock, clock-order}
+use Rattle.dots.specs.Clock.{Clock, count, covers, cmpClock, clock-order, normal, filled}
+use Rattle.dots.specs.ClockLaws.{normal-from, normal-to, normal-empty, filled-from, filled-to, covers-le, le-covers}
 use Rattle.replica.specs.Replica.{Entry, Wait, Replica, entries, waits, memberSets, entry?, clockOf, entry, waitAt, holds, seen, kills, killed}
 use Rattle.replica.specs.ByDots.{Fine}
-use Rattle.replica.specs.Laws.{covers-le, le-covers, killed-from, killed-to, names}
-
--- each key is before the one after it
-abbrev pub isLt : Ordering → Bool
-isLt Ordering·lt = true
-isLt Ordering·eq = false
-isLt Ordering·gt = false
-
-module _ {K : Type 0} (cmp : K → K → Ordering) where
-  unfoldable pub before : K → List K → Bool
-  before k [] = true
-  before k (j ∷ js) = isLt (cmp k j)
-
-  unfoldable pub ascending : List K → Bool
-  unfolding before
-  ascending [] = true
-  ascending (k ∷ ks) = before k ks && ascending ks
-
-is-lt : (o : Ordering) → T (isLt o) → o ≡ Ordering·lt
-is-lt Ordering·lt t = refl
-is-lt Ordering·eq t = absurd t
-is-lt Ordering·gt t = absurd t
-
-module _ {K : Type 0} (cmp : K → K → Ordering) (O : Order cmp) where
-  before-below : (k : K) (ks : List K) → T (before cmp k ks) → Asc cmp ks → Below cmp k ks
-  unfolding before
-  before-below k [] t h = tt
-  before-below k (j ∷ js) t h = let e = is-lt (cmp k j) t in (e, below-trans cmp O k j js e (h .0))
-
-  below-before : (k : K) (ks : List K) → Below cmp k ks → T (before cmp k ks)
-  unfolding before
-  below-before k [] h = tt
-  below-before k (j ∷ js) h = rw (h .0) tt
-
-  asc-from : (ks : List K) → T (ascending cmp ks) → Asc cmp ks
-  unfolding ascending
-  asc-from [] t = tt
-  asc-from (k ∷ ks) t = let h = asc-from ks (and-r (before cmp k ks) (ascending cmp ks) t) in (before-below k ks (and-l (before cmp k ks) (ascending cmp ks) t) h, h)
-
-  asc-to : (ks : List K) → Asc cmp ks → T (ascending cmp ks)
-  unfolding ascending
-  asc-to [] h = tt
-  asc-to (k ∷ ks) h = and-i (before cmp k ks) (ascending cmp ks) (below-before k ks (h .0)) (asc-to ks (h .1))
-
--- ---- the test
-
-unfoldable pub normal : Clock → Bool
-normal c = ascending compare (map (λ d. actorOf d) c) && every (λ d. ltb 0 (d .counter)) c
-
-unfoldable pub filled : Clock → Bool
-filled [] = false
-filled (d ∷ c) = true
+use Rattle.replica.specs.Laws.{killed-to}
 
 -- no dot of the entry is covered by a waiting remove that names its member
 unfoldable pub spared : Entry → Wait → Bool
 spared e w = not (get memberSets (w .members) (e .member)) || every (λ d. ltb (count (w .clock) (actorOf d)) (d .counter)) (e .clock)
-
--- every test of a list
-unfoldable pub alls : List Bool → Bool
-alls [] = true
-alls (b ∷ bs) = b && alls bs
 
 unfoldable pub entryTests : Replica → Entry → List Bool
 entryTests A e = normal (e .clock) ∷ filled (e .clock) ∷ covers (A .clock) (e .clock) ∷ every (spared e) (A .waiting) ∷ []
@@ -96,68 +42,11 @@ unfoldable pub sound : Replica → Bool
 unfolding tests
 sound A = alls (tests A)
 
-alls-from : (bs : List Bool) → T (alls bs) → All T bs
-unfolding alls
-alls-from [] t = tt
-alls-from (b ∷ bs) t = (and-l b (alls bs) t, alls-from bs (and-r b (alls bs) t))
-
-alls-to : (bs : List Bool) → All T bs → T (alls bs)
-unfolding alls
-alls-to [] h = tt
-alls-to (b ∷ bs) h = and-i b (alls bs) (h .0) (alls-to bs (h .1))
-
--- ---- what it says
-
-proper-dot : (d : Dot) → T (ltb 0 (d .counter)) → Proper clocks d
-proper-dot d t = go (d .counter) refl (ltb→lt 0 (d .counter) t)
-  where
-    go : (k : ℕ) → d .counter ≡ k → 0 < k → dot? (actorOf d) (d .counter) ≡ some d
-    go zero e l = absurd (not-suc-le-zero l)
-    go (suc n) e l = ap (dot? (actorOf d)) e ∙ (λ i. some (dot (actorOf d) ((sym e) i)))
-
-dot-proper : (d : Dot) → Proper clocks d → T (ltb 0 (d .counter))
-dot-proper d p = lt→ltb 0 (d .counter) (go (d .counter) refl)
-  where
-    go : (k : ℕ) → d .counter ≡ k → 0 < k
-    go zero e = absurd (false≢true (ap isSome (ap (dot? (actorOf d)) (sym e) ∙ p)))
-    go (suc n) e = omega arith
-
-normal-from : (c : Clock) → T (normal c) → Normal clocks c
-unfolding normal
-normal-from c t = record {
-  asc = asc-from compare nat-order (map (λ d. actorOf d) c) (and-l (ascending compare (map (λ d. actorOf d) c)) (every (λ d. ltb 0 (d .counter)) c) t);
-  proper = all-map (λ d. T (ltb 0 (d .counter))) (Proper clocks) c proper-dot (every-all (λ d. ltb 0 (d .counter)) c (and-r (ascending compare (map (λ d. actorOf d) c)) (every (λ d. ltb 0 (d .counter)) c) t));
-}
-
-normal-to : (c : Clock) → Normal clocks c → T (normal c)
-unfolding normal
-normal-to c h =
-    and-i (ascending compare (map (λ d. actorOf d) c)) (every (λ d. ltb 0 (d .counter)) c) (asc-to compare nat-order (map (λ d. actorOf d) c) (h .asc))
-    (all-every (λ d. ltb 0 (d .counter)) c (all-map (Proper clocks) (λ d. T (ltb 0 (d .counter))) c dot-proper (h .proper)))
-
-map-id : (ms : List ℕ) → map (λ m. m) ms ≡ ms
-map-id [] = refl
-map-id (m ∷ ms) = ap (λ (l : List ℕ). m ∷ l) (map-id ms)
-
-all-any : {R : Type 0} (P : R → Type 0) (rs : List R) → ((r : R) → P r) → All P rs
-all-any P [] f = tt
-all-any P (r ∷ rs) f = (f r, all-any P rs f)
-
 set-from : (ms : List ℕ) → T (ascending compare ms) → Normal memberSets ms
 set-from ms t = record { asc = rw (map-id ms) (asc-from compare nat-order ms t); proper = all-any (Proper memberSets) ms (λ m. refl) }
 
 set-to : (ms : List ℕ) → Normal memberSets ms → T (ascending compare ms)
 set-to ms h = asc-to compare nat-order ms (rw (map-id ms) at (h .asc))
-
-filled-from : (c : Clock) → T (filled c) → c ≢ []
-unfolding filled
-filled-from [] t e = t
-filled-from (d ∷ c) t e = subst (λ (l : Clock). T (filled l)) e tt
-
-filled-to : (c : Clock) → c ≢ [] → T (filled c)
-unfolding filled
-filled-to [] h = h refl
-filled-to (d ∷ c) h = tt
 
 -- ---- a well-formed replica is fine
 
@@ -211,9 +100,6 @@ spared-dot e w a n s t p =
         let l : d .counter ≡ suc n = sym (ap counterOf q) ∙ p in
         rw (find-key compare nat-order (clocks .key) a (e .clock) d q, ← l) (ltb→lt (count (w .clock) (actorOf d)) (d .counter) k)
 
-empty-normal : Normal clocks []
-empty-normal = record { asc = tt; proper = tt }
-
 pub wf-fine : (A : Replica) → T (sound A) → Fine A
 unfolding sound tests holds killed
 wf-fine A t = record {
@@ -245,7 +131,7 @@ wf-fine A t = record {
     at-entry m e p = find-all compare nat-order (entries .key) (EntryOk A) m (A .entries) e es p
 
     each : (m : ℕ) (o : Option Entry) → find compare (entries .key) m (A .entries) ≡ o → Normal clocks (clockOf (find compare (entries .key) m (A .entries)))
-    each m none p = rw p empty-normal
+    each m none p = rw p normal-empty
     each m (some e) p = rw p ((at-entry m e p) .normal-ok)
 
     within : (m a : ℕ) (o : Option Entry) → find compare (entries .key) m (A .entries) ≡ o → count (clockOf (find compare (entries .key) m (A .entries))) a ≤ count (A .clock) a
@@ -271,10 +157,6 @@ wf-fine A t = record {
         omega arith
 
 -- ---- and the other way
-
-all-both : {R : Type 0} (P Q S : R → Type 0) (rs : List R) → ((r : R) → P r → Q r → S r) → All P rs → All Q rs → All S rs
-all-both P Q S [] f h g = tt
-all-both P Q S (r ∷ rs) f h g = (f r (h .0) (g .0), all-both P Q S rs f (h .1) (g .1))
 
 one-wait : (A : Replica) → Fine A → (w : Wait) → find cmpClock (waits .key) (w .clock) (A .waiting) ≡ some w → T (alls (waitTests w))
 unfolding waitTests

@@ -1,6 +1,7 @@
 pub mod Order
 pub mod Truth
 pub mod Table
+pub mod Ascending
 pub mod Zip
 pub mod Turn
 pub mod Walk

@@ -93,6 +93,33 @@ pub all-every : {R : Type 0} (p : R → Bool) (rs : List R) → All (λ r. T (p 
 all-every p [] h = tt
 all-every p (r ∷ rs) h = and-i (p r) (every p rs) (h .0) (all-every p rs (h .1))
 
+pub all-both : {R : Type 0} (P Q S : R → Type 0) (rs : List R) → ((r : R) → P r → Q r → S r) → All P rs → All Q rs → All S rs
+all-both P Q S [] f h g = tt
+all-both P Q S (r ∷ rs) f h g = (f r (h .0) (g .0), all-both P Q S rs f (h .1) (g .1))
+
+pub all-any : {R : Type 0} (P : R → Type 0) (rs : List R) → ((r : R) → P r) → All P rs
+all-any P [] f = tt
+all-any P (r ∷ rs) f = (f r, all-any P rs f)
+
+-- every test of a list
+unfoldable pub alls : List Bool → Bool
+alls [] = true
+alls (b ∷ bs) = b && alls bs
+
+pub alls-from : (bs : List Bool) → T (alls bs) → All T bs
+unfolding alls
+alls-from [] t = tt
+alls-from (b ∷ bs) t = (and-l b (alls bs) t, alls-from bs (and-r b (alls bs) t))
+
+pub alls-to : (bs : List Bool) → All T bs → T (alls bs)
+unfolding alls
+alls-to [] h = tt
+alls-to (b ∷ bs) h = and-i b (alls bs) (h .0) (alls-to bs (h .1))
+
+pub map-id : {R : Type 0} (rs : List R) → map (λ r. r) rs ≡ rs
+map-id [] = refl
+map-id {R} (r ∷ rs) = ap (λ (l : List R). r ∷ l) (map-id rs)
+
 -- what `cons?` and `collect` keep
 pub all-cons? : {R : Type 0} (P : R → Type 0) (o : Option R) (rs : List R) → ((r : R) → o ≡ some r → P r) → All P rs → All P (cons? o rs)
 all-cons? P none rs h t = t

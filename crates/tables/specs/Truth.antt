@@ -1,7 +1,7 @@
 -- A law of Booleans in any number of unknowns, by trying them all.
 use Prim.Native.Nat.{ℕ, zero, suc}
 use mathlib.Core.Path.{_≡_, refl, sym, subst}
-use mathlib.Core.Bool.{Bool, true, false, _&&_, _||_, Bool·beq}
+use mathlib.Core.Bool.{Bool, true, false, not, _&&_, _||_, Bool·beq}
 use lib.Dec.{T}
 
 abbrev pub Test : ℕ → Type 0
@@ -64,3 +64,21 @@ beq→eq true true t = refl
 beq→eq true false t = absurd t
 beq→eq false true t = absurd t
 beq→eq false false t = refl
+
+pub bool-ext : (a b : Bool) → (T a → T b) → (T b → T a) → a ≡ b
+bool-ext true true f g = refl
+bool-ext true false f g = absurd (f tt)
+bool-ext false true f g = absurd (g tt)
+bool-ext false false f g = refl
+
+pub nor-l : (a b : Bool) → T (not (a || b)) → T (not a)
+nor-l true b t = t
+nor-l false b t = tt
+
+pub nor-r : (a b : Bool) → T (not (a || b)) → T (not b)
+nor-r true b t = absurd t
+nor-r false b t = t
+
+pub nor-i : (a b : Bool) → T (not a) → T (not b) → T (not (a || b))
+nor-i true b s t = s
+nor-i false b s t = t

@@ -1,0 +1,161 @@
+-- What the definitions on clocks say, counter by counter: two normalised clocks with the same counters are equal; which counters `covers`, `merged`
+-- and `resetBy` see and leave.
+use Prim.Native.Nat.{ℕ, zero, suc, _≤_, _<_, compare, max}
+use mathlib.Core.Path.{_≡_, refl, sym, ap, _∙_, subst}
+use mathlib.Core.Logic.{_≢_}
+use mathlib.Core.Bool.{Bool, true, false, not, _&&_, false≢true}
+use mathlib.Core.Option.{Option, none, some}
+use mathlib.Core.List.{List, [], _∷_, map}
+use native.Mathlib.Omega.{arith}
+use native.Mathlib.Nat.{le-trans, not-suc-le-zero}
+use lib.Dec.{T, leb, ltb, eqb, leb→le, le→leb, lt→ltb, ltb→lt, eqb·zero-suc}
+use borrow.Author.Tests.{eqb-true, leb-true, leb-false, le-leb, lt-leb}
+use Rattle.tables.specs.Order.{nat-order}
+use Rattle.tables.specs.Truth.{and-l, and-r, and-i}
+use Rattle.tables.specs.Table.{Normal, Proper, find, find-key, find-all, all-find, all-map, all-sift, every, every-all, all-every, asc-sift, find-sift, after, pick, pick-both, isSome, ext, get-join, normal-join}
+use Rattle.tables.specs.Ascending.{ascending, asc-from, asc-to}
+use Rattle.tables.specs.Zip.{zip}
+use Rattle.dots.specs.declared.Dot.{Dot}
+use Rattle.dots.specs.Dot.{clocks, dot, dot?, counterOf, actorOf}
+use Rattle.dots.specs.Clock.{Clock, count, normal, filled, coversDot, covers, merged, resetBy}
+
+-- ---- normalised
+
+proper-dot : (d : Dot) → T (ltb 0 (d .counter)) → Proper clocks d
+proper-dot d t = go (d .counter) refl (ltb→lt 0 (d .counter) t)
+  where
+    go : (k : ℕ) → d .counter ≡ k → 0 < k → dot? (actorOf d) (d .counter) ≡ some d
+    go zero e l = absurd (not-suc-le-zero l)
+    go (suc n) e l = ap (dot? (actorOf d)) e ∙ (λ i. some (dot (actorOf d) ((sym e) i)))
+
+dot-proper : (d : Dot) → Proper clocks d → T (ltb 0 (d .counter))
+dot-proper d p = lt→ltb 0 (d .counter) (go (d .counter) refl)
+  where
+    go : (k : ℕ) → d .counter ≡ k → 0 < k
+    go zero e = absurd (false≢true (ap isSome (ap (dot? (actorOf d)) (sym e) ∙ p)))
+    go (suc n) e = omega arith
+
+abbrev actors : Clock → List ℕ
+actors = map (λ d. actorOf d)
+
+abbrev counted : Clock → Bool
+counted = every (λ d. ltb 0 (d .counter))
+
+pub normal-from : (c : Clock) → T (normal c) → Normal clocks c
+unfolding normal
+normal-from c t = record {
+  asc = asc-from compare nat-order (actors c) (and-l (ascending compare (actors c)) (counted c) t);
+  proper = all-map (λ d. T (ltb 0 (d .counter))) (Proper clocks) c proper-dot (every-all (λ d. ltb 0 (d .counter)) c (and-r (ascending compare (actors c)) (counted c) t));
+}
+
+pub normal-to : (c : Clock) → Normal clocks c → T (normal c)
+unfolding normal
+normal-to c h =
+    and-i (ascending compare (actors c)) (counted c) (asc-to compare nat-order (actors c) (h .asc))
+    (all-every (λ d. ltb 0 (d .counter)) c (all-map (Proper clocks) (λ d. T (ltb 0 (d .counter))) c dot-proper (h .proper)))
+
+pub normal-empty : Normal clocks []
+normal-empty = record { asc = tt; proper = tt }
+
+pub filled-from : (c : Clock) → T (filled c) → c ≢ []
+unfolding filled
+filled-from [] t e = t
+filled-from (d ∷ c) t e = subst (λ (l : Clock). T (filled l)) e tt
+
+pub filled-to : (c : Clock) → c ≢ [] → T (filled c)
+unfolding filled
+filled-to [] h = h refl
+filled-to (d ∷ c) h = tt
+
+-- two normalised clocks with the same counters are equal
+pub clock-ext : (c d : Clock) → Normal clocks c → Normal clocks d → ((a : ℕ) → count c a ≡ count d a) → c ≡ d
+clock-ext = ext clocks
+
+-- ---- covers
+
+pub covers-le : (v c : Clock) → T (covers v c) → (a : ℕ) → count c a ≤ count v a
+unfolding covers
+covers-le v c t a = go (find compare (clocks .key) a c) refl
+  where
+    go : (o : Option Dot) → find compare (clocks .key) a c ≡ o → clocks .val o ≤ count v a
+    go none e = omega arith
+    go (some d) e =
+        let k = find-all compare nat-order (clocks .key) (λ d. T (coversDot v d)) a c d (every-all (coversDot v) c t) e in
+        rw (find-key compare nat-order (clocks .key) a c d e) (leb→le (d .counter) (count v (actorOf d)) k)
+
+pub le-covers : (v c : Clock) → Normal clocks c → ((a : ℕ) → count c a ≤ count v a) → T (covers v c)
+unfolding covers
+le-covers v c h f = all-every (coversDot v) c
+    (all-map (λ d. find compare (clocks .key) (actorOf d) c ≡ some d) (λ d. T (coversDot v d)) c
+    (λ d e. le→leb (d .counter) (count v (actorOf d)) (subst (λ (o : Option Dot). clocks .val o ≤ count v (actorOf d)) e (f (actorOf d))))
+    (all-find compare nat-order (clocks .key) c (h .asc)))
+
+-- a clock with larger counters covers what the smaller one does
+pub covers-mono : (v w c : Clock) → ((a : ℕ) → count v a ≤ count w a) → T (covers v c) → T (covers w c)
+unfolding covers
+covers-mono v w c f t = all-every (coversDot w) c
+    (all-map (λ d. T (coversDot v d)) (λ d. T (coversDot w d)) c
+    (λ d k. le→leb (d .counter) (count w (actorOf d)) (le-trans (leb→le (d .counter) (count v (actorOf d)) k) (f (actorOf d))))
+    (every-all (coversDot v) c t))
+
+pub not-covers : (v w c : Clock) → ((a : ℕ) → count v a ≤ count w a) → covers w c ≡ false → covers v c ≡ false
+not-covers v w c f e = go (covers v c) refl
+  where
+    go : (b : Bool) → covers v c ≡ b → covers v c ≡ false
+    go true u = absurd (rw e at (covers-mono v w c f (rw u tt)))
+    go false u = u
+
+-- ---- merged: the larger counter per actor
+
+pub merged-count : (c d : Clock) (a : ℕ) → count (merged c d) a ≡ max (count c a) (count d a)
+unfolding merged zip
+merged-count c d a = get-join clocks (λ a. max (count c a) (count d a)) c d (λ a e f. omega arith) a
+
+pub merged-normal : (c d : Clock) → Normal clocks d → Normal clocks (merged c d)
+unfolding merged zip
+merged-normal c d h = normal-join clocks (λ a. max (count c a) (count d a)) c d h
+
+-- ---- reset: an actor's counter stays exactly if it is larger
+
+abbrev keepDot : Clock → Dot → Option Dot
+keepDot w d = pick (coversDot w d) none (some d)
+
+kept : (b : Bool) (d e : Dot) → pick b none (some d) ≡ some e → e ≡ d
+kept true d e p = absurd (false≢true (ap isSome p))
+kept false d e p = cc
+
+kept-actor : (w : Clock) (d e : Dot) → keepDot w d ≡ some e → actorOf e ≡ actorOf d
+kept-actor w d e p = ap (λ (x : Dot). actorOf x) (kept (coversDot w d) d e p)
+
+pub reset-normal : (w c : Clock) → Normal clocks c → Normal clocks (resetBy w c)
+unfolding resetBy
+reset-normal w c h = record {
+  asc = asc-sift compare nat-order (clocks .key) (keepDot w) (kept-actor w) c (h .asc);
+  proper = all-sift (Proper clocks) (Proper clocks) (keepDot w) c (λ d e k p. subst (Proper clocks) (sym (kept (coversDot w d) d e p)) k) (h .proper);
+}
+
+counterOf-pick : (b : Bool) (d : Dot) → counterOf (pick b none (some d)) ≡ pick b 0 (d .counter)
+counterOf-pick true d = refl
+counterOf-pick false d = refl
+
+pub reset-count : (w c : Clock) → Normal clocks c → (a : ℕ) → count (resetBy w c) a ≡ pick (leb (count c a) (count w a)) 0 (count c a)
+unfolding resetBy
+reset-count w c h a =
+    ap counterOf (find-sift compare nat-order (clocks .key) (keepDot w) (kept-actor w) a c (h .asc)) ∙ go (find compare (clocks .key) a c) refl
+  where
+    go : (o : Option Dot) → find compare (clocks .key) a c ≡ o → counterOf (after o (keepDot w)) ≡ pick (leb (counterOf o) (count w a)) 0 (counterOf o)
+    go none e = sym (pick-both (leb 0 (count w a)) 0)
+    go (some d) e = rw (find-key compare nat-order (clocks .key) a c d e) (counterOf-pick (coversDot w d) d)
+
+reset-nat : (x y n : ℕ) → eqb (pick (leb x y) 0 x) (suc n) ≡ (eqb x (suc n) && not (leb (suc n) y))
+reset-nat x y n = go (leb x y) refl (eqb x (suc n)) refl
+  where
+    go : (b : Bool) → leb x y ≡ b → (c : Bool) → eqb x (suc n) ≡ c → eqb (pick b 0 x) (suc n) ≡ (c && not (leb (suc n) y))
+    go true u true v = let h = leb-true x y u in let k = eqb-true x (suc n) v in eqb·zero-suc n ∙ rw (le-leb (suc n) y (omega arith))
+    go true u false v = eqb·zero-suc n
+    go false u true v = let h = leb-false x y u in let k = eqb-true x (suc n) v in v ∙ rw (lt-leb (suc n) y (omega arith))
+    go false u false v = v
+
+-- one dot of a clock that is reset: held before, and not covered
+pub reset-dot : (w c : Clock) → Normal clocks c → (a n : ℕ) → eqb (count (resetBy w c) a) (suc n) ≡ (eqb (count c a) (suc n) && not (leb (suc n) (count w a)))
+reset-dot w c h a n = rw (reset-count w c h a) (reset-nat (count c a) (count w a) n)
