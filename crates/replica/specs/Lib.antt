@@ -9,5 +9,8 @@ pub mod Kills
 pub mod Limits
 pub mod Literal
 pub mod Member
+pub mod History
+pub mod Validate
+pub mod Reads
 pub mod Cases
 pub mod Main
