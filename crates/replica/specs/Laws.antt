@@ -102,7 +102,7 @@ merged-waiting-ok : (A B : Replica) → Fine B → Normal waits ((byDots A B) .w
 unfolding byDots
 merged-waiting-ok A B g = normal-join waits (λ c. pick (covers (merged (A .clock) (B .clock)) c) none (unite (waitAt A c) (waitAt B c))) (A .waiting) (B .waiting) (g .waiting-ok)
 
-kept-names : (b : Bool) (o : Option (List ℕ)) (m : ℕ) → T (names (pick b none o) m) → T (names o m)
+pub kept-names : (b : Bool) (o : Option (List ℕ)) (m : ℕ) → T (names (pick b none o) m) → T (names o m)
 kept-names true o m t = absurd t
 kept-names false o m t = t
 
@@ -146,7 +146,7 @@ pick-le true c x y v w p q = omega arith
 pick-le false true x y v w p q = omega arith
 pick-le false false x y v w p q = omega arith
 
-late-law : (c : Clock) (x y : Option (List ℕ)) → ((ms : List ℕ) → x ≡ some ms → Normal clocks c × (c ≢ []) × Normal memberSets ms)
+pub late-law : (c : Clock) (x y : Option (List ℕ)) → ((ms : List ℕ) → x ≡ some ms → Normal clocks c × (c ≢ []) × Normal memberSets ms)
     → ((ms : List ℕ) → y ≡ some ms → Normal clocks c × (c ≢ []) × Normal memberSets ms) → (ms : List ℕ) → unite x y ≡ some ms → Normal clocks c × (c ≢ []) × Normal memberSets ms
 unfolding unite zip
 late-law c none y f g ms e = g ms e
@@ -157,7 +157,7 @@ late-law c (some x) (some y) f g ms e =
     let s : zip memberSets (λ m. _||_) x y ≡ ms = cc in
     (p .0, p .1, subst (Normal memberSets) s (normal-join memberSets (λ m. get memberSets x m || get memberSets y m) x y (q .2)))
 
-kept-some : (b : Bool) (o : Option (List ℕ)) (ms : List ℕ) → pick b none o ≡ some ms → o ≡ some ms
+pub kept-some : (b : Bool) (o : Option (List ℕ)) (ms : List ℕ) → pick b none o ≡ some ms → o ≡ some ms
 kept-some true o ms e = absurd (false≢true (ap isSome e))
 kept-some false o ms e = e
 

@@ -41,7 +41,7 @@ kept-proper true e c x k p = go c p
     go (d ∷ c) p = let q : record { member = e .member; clock = d ∷ c } ≡ x = cc in subst (Proper entries) q refl
 kept-proper false e c x k p = let q : e ≡ x = cc in subst (Proper entries) q k
 
-remove-get : (w : Wait) (es : List Entry) → Normal entries es → (m : ℕ) → get entries (removeFrom w es) m ≡ pick (get memberSets (w .members) m) (resetBy (w .clock) (get entries es m)) (get entries es m)
+pub remove-get : (w : Wait) (es : List Entry) → Normal entries es → (m : ℕ) → get entries (removeFrom w es) m ≡ pick (get memberSets (w .members) m) (resetBy (w .clock) (get entries es m)) (get entries es m)
 unfolding removeFrom resetBy
 remove-get w es h m =
     ap clockOf (find-sift compare nat-order (entries .key) (λ e. pick (get memberSets (w .members) (e .member)) (entry? (e .member) (resetBy (w .clock) (e .clock))) (some e))
@@ -61,7 +61,7 @@ pick-normal : (b : Bool) (c d : Clock) → Normal clocks c → Normal clocks d �
 pick-normal true c d h g = h
 pick-normal false c d h g = g
 
-remove-sound : (w : Wait) (es : List Entry) → Sound es → Sound (removeFrom w es)
+pub remove-sound : (w : Wait) (es : List Entry) → Sound es → Sound (removeFrom w es)
 unfolding removeFrom
 remove-sound w es h = record {
   rows = record {
@@ -73,14 +73,14 @@ remove-sound w es h = record {
   each = λ m. rw (remove-get w es (h .rows) m) (pick-normal (get memberSets (w .members) m) (resetBy (w .clock) (get entries es m)) (get entries es m) (reset-normal (w .clock) (get entries es m) (h .each m)) (h .each m));
 }
 
-remove-dot : (w : Wait) (es : List Entry) → Sound es → (m a n : ℕ) → eqb (count (get entries (removeFrom w es) m) a) (suc n) ≡ (eqb (count (get entries es m) a) (suc n) && not (kills m a (suc n) w))
+pub remove-dot : (w : Wait) (es : List Entry) → Sound es → (m a n : ℕ) → eqb (count (get entries (removeFrom w es) m) a) (suc n) ≡ (eqb (count (get entries es m) a) (suc n) && not (kills m a (suc n) w))
 remove-dot w es h m a n = rw (remove-get w es (h .rows) m) (go (get memberSets (w .members) m))
   where
     go : (b : Bool) → eqb (count (pick b (resetBy (w .clock) (get entries es m)) (get entries es m)) a) (suc n) ≡ (eqb (count (get entries es m) a) (suc n) && not (b && leb (suc n) (count (w .clock) a)))
     go true = reset-dot (w .clock) (get entries es m) (h .each m) a n
     go false = sym (and-true (eqb (count (get entries es m) a) (suc n)))
 
-removes-sound : (ws : List Wait) (es : List Entry) → Sound es → Sound (removesFrom ws es)
+pub removes-sound : (ws : List Wait) (es : List Entry) → Sound es → Sound (removesFrom ws es)
 unfolding removesFrom
 removes-sound [] es h = h
 removes-sound (w ∷ ws) es h = removes-sound ws (removeFrom w es) (remove-sound w es h)

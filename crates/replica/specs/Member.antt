@@ -21,7 +21,7 @@ use Rattle.replica.specs.Replica.{Entry, Wait, Replica, entries, waits, 
 use Rattle.replica.specs.ByDots.{live, byDots, Fine}
 use Rattle.replica.specs.Laws.{names, killed-from, killed-to, merge-fine, merged-holds}
 
-pub isIn : Replica → ℕ → Bool
+unfoldable pub isIn : Replica → ℕ → Bool
 isIn A m = isSome (find compare (entries .key) m (A .entries))
 
 -- a member is in a replica that holds a dot for it
