@@ -21,14 +21,14 @@ use Rattle.dots.specs.Clock.{Clock, count, normal, filled, coversDot, co
 
 -- ---- normalised
 
-proper-dot : (d : Dot) → T (ltb 0 (d .counter)) → Proper clocks d
+pub proper-dot : (d : Dot) → T (ltb 0 (d .counter)) → Proper clocks d
 proper-dot d t = go (d .counter) refl (ltb→lt 0 (d .counter) t)
   where
     go : (k : ℕ) → d .counter ≡ k → 0 < k → dot? (actorOf d) (d .counter) ≡ some d
     go zero e l = absurd (not-suc-le-zero l)
     go (suc n) e l = ap (dot? (actorOf d)) e ∙ (λ i. some (dot (actorOf d) ((sym e) i)))
 
-dot-proper : (d : Dot) → Proper clocks d → T (ltb 0 (d .counter))
+pub dot-proper : (d : Dot) → Proper clocks d → T (ltb 0 (d .counter))
 dot-proper d p = lt→ltb 0 (d .counter) (go (d .counter) refl)
   where
     go : (k : ℕ) → d .counter ≡ k → 0 < k

@@ -1,3 +1,4 @@
 pub mod Dot
 pub mod Clock
 pub mod ClockLaws
+pub mod Rising
