@@ -1,0 +1,1 @@
+// Theory only: a replica's bytes, written and read, in specs/.
