@@ -5,29 +5,22 @@ use Prim.Native.Nat.{ℕ, suc, zero, _+_, _*_}
 use lib.Dec.{leb, ltb, eqb}
 use lib.ListN.{length}
 use Rattle.tables.specs.Table.{every}
-use Rattle.dots.specs.declared.Dot.{Dot}
-use Rattle.dots.specs.Dot.{actorOf}
+use Rattle.tables.specs.Ascending.{isLt}
 use Rattle.dots.specs.Clock.{Clock, covers, cmpClock}
+use Rattle.dots.specs.Rising.{rising}
 use Rattle.replica.specs.Replica.{Entry, Wait, Replica}
 use Rattle.replica.specs.Limits.{Limits, full}
-use Rattle.replica.specs.Wf.{isLt, spared}
+use Rattle.replica.specs.Wf.{spared}
 use Rattle.layout.specs.Fields.{u32At}
 use Rattle.layout.specs.Lists.{endAfter}
 use Rattle.layout.specs.Clock.{Width, narrow, clockIn, clockEndIn}
 use Rattle.layout.specs.Rows.{membersAt, rowEndIn, waitEndIn}
 use Rattle.layout.specs.Image.{version, zeroField, totalLength, entriesStart, entriesCount, waitsStart, waitsCount, imageIn}
 
--- "Ascending means strictly so, nothing twice.": the keys rise from low on, and each thing passes its own test
-unfoldable pub risingBy : {R : Type 0} → (R → ℕ) → (R → Bool) → ℕ → List R → Bool
-risingBy key fine low [] = true
-risingBy key fine low (r ∷ rs) = leb low (key r) && (fine r && risingBy key fine (key r + 1) rs)
-
--- "actors strictly ascending, no zero counter"
-abbrev pub rising : ℕ → Clock → Bool
-rising = risingBy actorOf (λ d. ltb 0 (d .counter))
-
-abbrev pub risingMembers : ℕ → List ℕ → Bool
-risingMembers = risingBy (λ m. m) (λ m. true)
+-- "ascending members": they rise from low on; "Ascending means strictly so, nothing twice."
+unfoldable pub risingMembers : ℕ → List ℕ → Bool
+risingMembers low [] = true
+risingMembers low (m ∷ ms) = leb low m && risingMembers (m + 1) ms
 
 -- at most `most` members, ascending, stand at q after their count
 unfoldable pub goodMembersIn : ℕ → List ℕ → ℕ → Bool
