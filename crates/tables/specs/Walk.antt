@@ -1,4 +1,4 @@
--- Four tables walked along the keys of a fifth, which has all of theirs.
+-- Two tables walked along ascending keys, which have all of theirs.
 use Prim.Native.Nat.{ℕ, zero, suc, _+_, _≤_, _<_, compare, Ordering, Ordering·lt, Ordering·eq, Ordering·gt}
 use mathlib.Core.Path.{_≡_, refl, sym, ap, ap₂, _∙_, subst}
 use mathlib.Core.Bool.{Bool, true, false, _||_, false≢true}
@@ -77,41 +77,45 @@ module _ (N : Rows) where
       go true e = sym (get-after (kind N) x xs j (subst (λ (i : ℕ). compare i j ≡ Ordering·lt) (sym (eqb-true (N .key x) k e)) h))
       go false e = refl
 
-  module _ (f : N .Val → N .Val → N .Val → N .Val → N .Val) where
-    unfoldable pub walked : List ℕ → List (N .Row) → List (N .Row) → List (N .Row) → List (N .Row) → List (N .Row)
-    walked [] us ws xs ys = []
-    walked (k ∷ ks) us ws xs ys =
-        cons? (N .row k (f (said N k us) (said N k ws) (said N k xs) (said N k ys))) (walked ks (past N k us) (past N k ws) (past N k xs) (past N k ys))
+  -- at each key in turn, the value by the rule of what the two tables say there
+  module _ (f : ℕ → N .Val → N .Val → N .Val) where
+    unfoldable pub walked : List ℕ → List (N .Row) → List (N .Row) → List (N .Row)
+    walked [] xs ys = []
+    walked (k ∷ ks) xs ys = cons? (N .row k (f k (said N k xs) (said N k ys))) (walked ks (past N k xs) (past N k ys))
 
-    abbrev pub at : List (N .Row) → List (N .Row) → List (N .Row) → List (N .Row) → ℕ → N .Val
-    at us ws xs ys k = f (get (kind N) us k) (get (kind N) ws k) (get (kind N) xs k) (get (kind N) ys k)
+    abbrev pub at : List (N .Row) → List (N .Row) → ℕ → N .Val
+    at xs ys k = f k (get (kind N) xs k) (get (kind N) ys k)
 
-    four : (a a′ b b′ x x′ y y′ : N .Val) → a ≡ a′ → b ≡ b′ → x ≡ x′ → y ≡ y′ → f a b x y ≡ f a′ b′ x′ y′
-    four a a′ b b′ x x′ y y′ p q r s = cc
-
-    pub walked-is : (ks : List ℕ) (us ws xs ys : List (N .Row)) → Asc compare ks → Rise N us → Rise N ws → Rise N xs → Rise N ys
-        → Sub ks us → Sub ks ws → Sub ks xs → Sub ks ys → walked ks us ws xs ys ≡ collect (λ k. N .row k (at us ws xs ys k)) ks
+    pub walked-is : (ks : List ℕ) (xs ys : List (N .Row)) → Asc compare ks → Rise N xs → Rise N ys → Sub ks xs → Sub ks ys
+        → walked ks xs ys ≡ collect (λ k. N .row k (at xs ys k)) ks
     unfolding walked
-    walked-is [] us ws xs ys o ra rb rx ry sa sb sx sy = refl
-    walked-is (k ∷ ks) us ws xs ys o ra rb rx ry sa sb sx sy =
+    walked-is [] xs ys o rx ry sx sy = refl
+    walked-is (k ∷ ks) xs ys o rx ry sx sy =
         ap₂ cons?
-        (ap (N .row k) (four _ _ _ _ _ _ _ _ (said-get k us ra (front-sub k ks us (o .0) sa)) (said-get k ws rb (front-sub k ks ws (o .0) sb)) (said-get k xs rx (front-sub k ks xs (o .0) sx)) (said-get k ys ry (front-sub k ks ys (o .0) sy))))
-        (walked-is ks (past N k us) (past N k ws) (past N k xs) (past N k ys) (o .1) (rise-past N k us ra) (rise-past N k ws rb) (rise-past N k xs rx) (rise-past N k ys ry)
-        (sub-past k ks us (o .0) ra sa) (sub-past k ks ws (o .0) rb sb) (sub-past k ks xs (o .0) rx sx) (sub-past k ks ys (o .0) ry sy)
-        ∙ collect-below compare (λ j. N .row j (at (past N k us) (past N k ws) (past N k xs) (past N k ys) j)) (λ j. N .row j (at us ws xs ys j)) k ks (o .0)
-        (λ j e. ap (N .row j) (four _ _ _ _ _ _ _ _ (get-past k j us e) (get-past k j ws e) (get-past k j xs e) (get-past k j ys e))))
+        (ap₂ (λ (u w : N .Val). N .row k (f k u w)) (said-get k xs rx (front-sub k ks xs (o .0) sx)) (said-get k ys ry (front-sub k ks ys (o .0) sy)))
+        (walked-is ks (past N k xs) (past N k ys) (o .1) (rise-past N k xs rx) (rise-past N k ys ry) (sub-past k ks xs (o .0) rx sx) (sub-past k ks ys (o .0) ry sy)
+        ∙ collect-below compare (λ j. N .row j (at (past N k xs) (past N k ys) j)) (λ j. N .row j (at xs ys j)) k ks (o .0)
+        (λ j e. ap₂ (λ (u w : N .Val). N .row j (f j u w)) (get-past k j xs e) (get-past k j ys e)))
 
-    -- so it is the join of the last two, where nothing else has a value
-    pub walked-join : (vs us ws xs ys : List (N .Row)) → Normal (kind N) vs → Normal (kind N) ys → Rise N us → Rise N ws → Rise N xs
-        → Sub (map (N .key) vs) us → Sub (map (N .key) vs) ws → Sub (map (N .key) vs) xs → Sub (map (N .key) vs) ys
-        → ((k : ℕ) → get (kind N) vs k ≡ N .val none → at us ws xs ys k ≡ N .val none)
-        → ((k : ℕ) → get (kind N) xs k ≡ N .val none → get (kind N) ys k ≡ N .val none → at us ws xs ys k ≡ N .val none)
-        → walked (map (N .key) vs) us ws xs ys ≡ join (kind N) (at us ws xs ys) xs ys
-    walked-join vs us ws xs ys nv ny ra rb rx sa sb sx sy z w =
-        walked-is (map (N .key) vs) us ws xs ys (nv .asc) ra rb rx (ny .asc) sa sb sx sy
-        ∙ ext (kind N) (join (kind N) (at us ws xs ys) [] vs) (join (kind N) (at us ws xs ys) xs ys)
-        (normal-join (kind N) (at us ws xs ys) [] vs nv) (normal-join (kind N) (at us ws xs ys) xs ys ny)
-        (λ k. get-join (kind N) (at us ws xs ys) [] vs (λ j p q. z j q) k ∙ sym (get-join (kind N) (at us ws xs ys) xs ys w k))
+    -- so it is the join of the two, where nothing else has a value
+    pub walked-join : (vs xs ys : List (N .Row)) → Normal (kind N) vs → Normal (kind N) ys → Rise N xs → Sub (map (N .key) vs) xs → Sub (map (N .key) vs) ys
+        → ((k : ℕ) → get (kind N) vs k ≡ N .val none → at xs ys k ≡ N .val none)
+        → ((k : ℕ) → get (kind N) xs k ≡ N .val none → get (kind N) ys k ≡ N .val none → at xs ys k ≡ N .val none)
+        → walked (map (N .key) vs) xs ys ≡ join (kind N) (at xs ys) xs ys
+    walked-join vs xs ys nv ny rx sx sy z w =
+        walked-is (map (N .key) vs) xs ys (nv .asc) rx (ny .asc) sx sy
+        ∙ ext (kind N) (join (kind N) (at xs ys) [] vs) (join (kind N) (at xs ys) xs ys)
+        (normal-join (kind N) (at xs ys) [] vs nv) (normal-join (kind N) (at xs ys) xs ys ny)
+        (λ k. get-join (kind N) (at xs ys) [] vs (λ j p q. z j q) k ∙ sym (get-join (kind N) (at xs ys) xs ys w k))
+
+    pub length-walked : (ks : List ℕ) (xs ys : List (N .Row)) → length (walked ks xs ys) ≤ length ks
+    unfolding walked
+    length-walked [] xs ys = omega arith
+    length-walked (k ∷ ks) xs ys = go (N .row k (f k (said N k xs) (said N k ys))) (length-walked ks (past N k xs) (past N k ys))
+      where
+        go : (o : Option (N .Row)) → length (walked ks (past N k xs) (past N k ys)) ≤ length ks → length (cons? o (walked ks (past N k xs) (past N k ys))) ≤ suc (length ks)
+        go none h = omega arith
+        go (some r) h = omega arith
 
 pub length-collect : {K R : Type 0} (f : K → Option R) (ks : List K) → length (collect f ks) ≤ length ks
 length-collect f [] = omega arith

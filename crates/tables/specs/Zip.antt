@@ -21,6 +21,11 @@ module _ {K R : Type 0} (cmp : K → K → Ordering) where
   collect-below f g j [] h e = refl
   collect-below f g j (k ∷ ks) h e = ap₂ cons? (e k (h .0)) (collect-below f g j ks (h .1) e)
 
+-- the rows after the first
+abbrev pub tail : {R : Type 0} → List R → List R
+tail [] = []
+tail (r ∷ rs) = rs
+
 module _ (S : Kind) where
   unfoldable pub zip : (S .Key → S .Val → S .Val → S .Val) → List (S .Row) → List (S .Row) → List (S .Row)
   zip h xs ys = join S (λ k. h k (get S xs k) (get S ys k)) xs ys
@@ -73,6 +78,71 @@ module _ (S : Kind) where
     pub zip-nil : zip h [] [] ≡ []
     unfolding zip
     zip-nil = refl
+
+  -- ---- one turn of a loop over two tables
+
+  -- which of the two first rows is next: the first's, both, or the second's
+  abbrev pub turnOf : List (S .Row) → List (S .Row) → Ordering
+  turnOf [] [] = Ordering·eq
+  turnOf [] (y ∷ ys) = Ordering·gt
+  turnOf (x ∷ xs) [] = Ordering·lt
+  turnOf (x ∷ xs) (y ∷ ys) = S .cmp (S .key x) (S .key y)
+
+  -- what is ahead after a turn
+  abbrev pub left-after : Ordering → List (S .Row) → List (S .Row)
+  left-after Ordering·lt xs = tail xs
+  left-after Ordering·eq xs = tail xs
+  left-after Ordering·gt xs = xs
+
+  abbrev pub right-after : Ordering → List (S .Row) → List (S .Row)
+  right-after Ordering·lt ys = ys
+  right-after Ordering·eq ys = tail ys
+  right-after Ordering·gt ys = tail ys
+
+  -- the row that a turn gives
+  abbrev pub one-row : (S .Key → S .Val → S .Val → S .Val) → S .Row → Option (S .Row) → Option (S .Row) → Option (S .Row)
+  one-row h r x y = S .row (S .key r) (h (S .key r) (S .val x) (S .val y))
+
+  abbrev pub turn-row : (S .Key → S .Val → S .Val → S .Val) → Ordering → List (S .Row) → List (S .Row) → Option (S .Row)
+  turn-row h Ordering·lt [] ys = none
+  turn-row h Ordering·lt (x ∷ xs) ys = one-row h x (some x) none
+  turn-row h Ordering·eq [] ys = none
+  turn-row h Ordering·eq (x ∷ xs) [] = none
+  turn-row h Ordering·eq (x ∷ xs) (y ∷ ys) = one-row h x (some x) (some y)
+  turn-row h Ordering·gt xs [] = none
+  turn-row h Ordering·gt xs (y ∷ ys) = one-row h y none (some y)
+
+  abbrev pub Ascend : List (S .Row) → Type 0
+  Ascend rs = Asc (S .cmp) (map (S .key) rs)
+
+  pub zip-turn : (h : S .Key → S .Val → S .Val → S .Val) (xs ys : List (S .Row)) → Ascend xs → Ascend ys
+      → zip h xs ys ≡ cons? (turn-row h (turnOf xs ys) xs ys) (zip h (left-after (turnOf xs ys) xs) (right-after (turnOf xs ys) ys))
+  zip-turn h [] [] a b = refl
+  zip-turn h [] (y ∷ ys) a b = zip-right h y [] ys tt (b .0)
+  zip-turn h (x ∷ xs) [] a b = zip-left h x xs [] (a .0) tt
+  zip-turn h (x ∷ xs) (y ∷ ys) a b = go (S .cmp (S .key x) (S .key y)) refl
+    where
+      go : (o : Ordering) → S .cmp (S .key x) (S .key y) ≡ o
+          → zip h (x ∷ xs) (y ∷ ys) ≡ cons? (turn-row h o (x ∷ xs) (y ∷ ys)) (zip h (left-after o (x ∷ xs)) (right-after o (y ∷ ys)))
+      go Ordering·lt c = zip-left h x xs (y ∷ ys) (a .0) (c, below-trans (S .cmp) (S .order) (S .key x) (S .key y) (map (S .key) ys) c (b .0))
+      go Ordering·eq c = zip-both h x y xs ys c (a .0) (a .1) (b .0)
+      go Ordering·gt c =
+          let c′ = gt-lt (S .cmp) (S .order) (S .key x) (S .key y) c in
+          zip-right h y (x ∷ xs) ys (c′, below-trans (S .cmp) (S .order) (S .key y) (S .key x) (map (S .key) xs) c′ (a .0)) (b .0)
+
+  pub ascend-left : (o : Ordering) (xs : List (S .Row)) → Ascend xs → Ascend (left-after o xs)
+  ascend-left Ordering·lt [] a = tt
+  ascend-left Ordering·lt (x ∷ xs) a = a .1
+  ascend-left Ordering·eq [] a = tt
+  ascend-left Ordering·eq (x ∷ xs) a = a .1
+  ascend-left Ordering·gt xs a = a
+
+  pub ascend-right : (o : Ordering) (ys : List (S .Row)) → Ascend ys → Ascend (right-after o ys)
+  ascend-right Ordering·lt ys a = a
+  ascend-right Ordering·eq [] a = tt
+  ascend-right Ordering·eq (y ∷ ys) a = a .1
+  ascend-right Ordering·gt [] a = tt
+  ascend-right Ordering·gt (y ∷ ys) a = a .1
 
 -- ---- tables whose keys are numbers: a step of a loop over two of them
 
