@@ -3,7 +3,7 @@
 use Prim.Native.Nat.{ℕ, zero, suc, _≤_, _<_, compare, max}
 use mathlib.Core.Path.{_≡_, refl, sym, ap, _∙_, subst}
 use mathlib.Core.Logic.{_≢_}
-use mathlib.Core.Bool.{Bool, true, false, not, _&&_, false≢true}
+use mathlib.Core.Bool.{Bool, true, false, not, _&&_, _||_, false≢true}
 use mathlib.Core.Option.{Option, none, some}
 use mathlib.Core.List.{List, [], _∷_, map}
 use native.Mathlib.Omega.{arith}
@@ -12,9 +12,9 @@ use lib.Dec.{T, leb, ltb, eqb, leb→le, le→leb, lt→ltb, ltb→lt, eqb·zero
 use borrow.Author.Tests.{eqb-true, leb-true, leb-false, le-leb, lt-leb}
 use Rattle.tables.specs.Order.{nat-order}
 use Rattle.tables.specs.Truth.{and-l, and-r, and-i}
-use Rattle.tables.specs.Table.{Normal, Proper, find, find-key, find-all, all-find, all-map, all-sift, every, every-all, all-every, asc-sift, find-sift, after, pick, pick-both, isSome, ext, get-join, normal-join}
+use Rattle.tables.specs.Table.{Normal, Proper, every, all-map, every-all, all-every, every-map, by-row, key-at, every-at, at-every, normal-sift, get-sift, pick, pick-both, isSome, ext}
 use Rattle.tables.specs.Ascending.{ascending, asc-from, asc-to}
-use Rattle.tables.specs.Zip.{zip}
+use Rattle.tables.specs.Zip.{get-zip, normal-zip}
 use Rattle.dots.specs.declared.Dot.{Dot}
 use Rattle.dots.specs.Dot.{clocks, dot, dot?, counterOf, actorOf}
 use Rattle.dots.specs.Clock.{Clock, count, normal, filled, coversDot, covers, merged, resetBy}
@@ -71,32 +71,23 @@ filled-to (d ∷ c) h = tt
 pub clock-ext : (c d : Clock) → Normal clocks c → Normal clocks d → ((a : ℕ) → count c a ≡ count d a) → c ≡ d
 clock-ext = ext clocks
 
--- ---- covers
+-- ---- covers: at least the other's counter for every actor
 
 pub covers-le : (v c : Clock) → T (covers v c) → (a : ℕ) → count c a ≤ count v a
 unfolding covers
-covers-le v c t a = go (find compare (clocks .key) a c) refl
-  where
-    go : (o : Option Dot) → find compare (clocks .key) a c ≡ o → clocks .val o ≤ count v a
-    go none e = omega arith
-    go (some d) e =
-        let k = find-all compare nat-order (clocks .key) (λ d. T (coversDot v d)) a c d (every-all (coversDot v) c t) e in
-        rw (find-key compare nat-order (clocks .key) a c d e) (leb→le (d .counter) (count v (actorOf d)) k)
+covers-le v c t a = by-row clocks (λ n. n ≤ count v a) c a (omega arith)
+    (λ d e. rw (key-at clocks c a d e) (leb→le (d .counter) (count v (actorOf d)) (every-at clocks (coversDot v) c t a d e)))
 
 pub le-covers : (v c : Clock) → Normal clocks c → ((a : ℕ) → count c a ≤ count v a) → T (covers v c)
 unfolding covers
-le-covers v c h f = all-every (coversDot v) c
-    (all-map (λ d. find compare (clocks .key) (actorOf d) c ≡ some d) (λ d. T (coversDot v d)) c
-    (λ d e. le→leb (d .counter) (count v (actorOf d)) (subst (λ (o : Option Dot). clocks .val o ≤ count v (actorOf d)) e (f (actorOf d))))
-    (all-find compare nat-order (clocks .key) c (h .asc)))
+le-covers v c h f = at-every clocks (coversDot v) c h
+    (λ d e p. le→leb (d .counter) (count v (actorOf d)) (subst (λ (o : Option Dot). counterOf o ≤ count v (actorOf d)) e (f (actorOf d))))
 
 -- a clock with larger counters covers what the smaller one does
 pub covers-mono : (v w c : Clock) → ((a : ℕ) → count v a ≤ count w a) → T (covers v c) → T (covers w c)
 unfolding covers
-covers-mono v w c f t = all-every (coversDot w) c
-    (all-map (λ d. T (coversDot v d)) (λ d. T (coversDot w d)) c
-    (λ d k. le→leb (d .counter) (count w (actorOf d)) (le-trans (leb→le (d .counter) (count v (actorOf d)) k) (f (actorOf d))))
-    (every-all (coversDot v) c t))
+covers-mono v w c f t = every-map (coversDot v) (coversDot w) c
+    (λ d k. le→leb (d .counter) (count w (actorOf d)) (le-trans (leb→le (d .counter) (count v (actorOf d)) k) (f (actorOf d)))) t
 
 pub not-covers : (v w c : Clock) → ((a : ℕ) → count v a ≤ count w a) → covers w c ≡ false → covers v c ≡ false
 not-covers v w c f e = go (covers v c) refl
@@ -108,44 +99,47 @@ not-covers v w c f e = go (covers v c) refl
 -- ---- merged: the larger counter per actor
 
 pub merged-count : (c d : Clock) (a : ℕ) → count (merged c d) a ≡ max (count c a) (count d a)
-unfolding merged zip
-merged-count c d a = get-join clocks (λ a. max (count c a) (count d a)) c d (λ a e f. omega arith) a
+unfolding merged
+merged-count c d a = get-zip clocks (λ a. max) c d (λ a. omega arith) a
 
 pub merged-normal : (c d : Clock) → Normal clocks d → Normal clocks (merged c d)
-unfolding merged zip
-merged-normal c d h = normal-join clocks (λ a. max (count c a) (count d a)) c d h
+unfolding merged
+merged-normal c d h = normal-zip clocks (λ a. max) c d h
+
+pub leb-max : (n x y : ℕ) → leb n (max x y) ≡ (leb n x || leb n y)
+leb-max n x y = go (leb n x) (leb n y) refl refl
+  where
+    go : (a b : Bool) → leb n x ≡ a → leb n y ≡ b → leb n (max x y) ≡ (a || b)
+    go true b u v = let h = leb-true n x u in le-leb n (max x y) (omega arith)
+    go false true u v = let h = leb-true n y v in le-leb n (max x y) (omega arith)
+    go false false u v = let h = leb-false n x u in let k = leb-false n y v in lt-leb n (max x y) (omega arith)
+
+-- it covers a dot exactly if one of the two does
+pub merged-dot : (c d : Clock) (a n : ℕ) → leb n (count (merged c d) a) ≡ (leb n (count c a) || leb n (count d a))
+merged-dot c d a n = ap (leb n) (merged-count c d a) ∙ leb-max n (count c a) (count d a)
 
 -- ---- reset: an actor's counter stays exactly if it is larger
 
 abbrev keepDot : Clock → Dot → Option Dot
 keepDot w d = pick (coversDot w d) none (some d)
 
-kept : (b : Bool) (d e : Dot) → pick b none (some d) ≡ some e → e ≡ d
-kept true d e p = absurd (false≢true (ap isSome p))
-kept false d e p = cc
+abbrev keepCount : Clock → ℕ → ℕ → ℕ
+keepCount w a n = pick (leb n (count w a)) 0 n
 
-kept-actor : (w : Clock) (d e : Dot) → keepDot w d ≡ some e → actorOf e ≡ actorOf d
-kept-actor w d e p = ap (λ (x : Dot). actorOf x) (kept (coversDot w d) d e p)
+keep-says : (w : Clock) (d : Dot) → Proper clocks d → keepDot w d ≡ dot? (actorOf d) (keepCount w (actorOf d) (d .counter))
+keep-says w d p = go (coversDot w d)
+  where
+    go : (b : Bool) → pick b none (some d) ≡ dot? (actorOf d) (pick b 0 (d .counter))
+    go true = refl
+    go false = sym p
 
 pub reset-normal : (w c : Clock) → Normal clocks c → Normal clocks (resetBy w c)
 unfolding resetBy
-reset-normal w c h = record {
-  asc = asc-sift compare nat-order (clocks .key) (keepDot w) (kept-actor w) c (h .asc);
-  proper = all-sift (Proper clocks) (Proper clocks) (keepDot w) c (λ d e k p. subst (Proper clocks) (sym (kept (coversDot w d) d e p)) k) (h .proper);
-}
-
-counterOf-pick : (b : Bool) (d : Dot) → counterOf (pick b none (some d)) ≡ pick b 0 (d .counter)
-counterOf-pick true d = refl
-counterOf-pick false d = refl
+reset-normal w c h = normal-sift clocks (keepDot w) (keepCount w) (keep-says w) c h
 
 pub reset-count : (w c : Clock) → Normal clocks c → (a : ℕ) → count (resetBy w c) a ≡ pick (leb (count c a) (count w a)) 0 (count c a)
 unfolding resetBy
-reset-count w c h a =
-    ap counterOf (find-sift compare nat-order (clocks .key) (keepDot w) (kept-actor w) a c (h .asc)) ∙ go (find compare (clocks .key) a c) refl
-  where
-    go : (o : Option Dot) → find compare (clocks .key) a c ≡ o → counterOf (after o (keepDot w)) ≡ pick (leb (counterOf o) (count w a)) 0 (counterOf o)
-    go none e = sym (pick-both (leb 0 (count w a)) 0)
-    go (some d) e = rw (find-key compare nat-order (clocks .key) a c d e) (counterOf-pick (coversDot w d) d)
+reset-count w c h a = get-sift clocks (keepDot w) (keepCount w) (keep-says w) (λ a. pick-both (leb 0 (count w a)) 0) c h a
 
 reset-nat : (x y n : ℕ) → eqb (pick (leb x y) 0 x) (suc n) ≡ (eqb x (suc n) && not (leb (suc n) y))
 reset-nat x y n = go (leb x y) refl (eqb x (suc n)) refl

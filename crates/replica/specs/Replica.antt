@@ -5,7 +5,7 @@ use mathlib.Core.Bool.{Bool, true, false, _&&_, _||_, false≢true}
 use mathlib.Core.Option.{Option, none, some}
 use mathlib.Core.List.{List, [], _∷_}
 use lib.Dec.{leb, eqb}
-use Rattle.tables.specs.Table.{Kind, get, isSome, any}
+use Rattle.tables.specs.Table.{Kind, get, rowAt, isSome, any}
 use Rattle.tables.specs.Zip.{Rows, kind, zip}
 use Rattle.dots.specs.Clock.{Clock, count, cmpClock, clock-order}
 
@@ -97,9 +97,21 @@ entry A m = get entries (A .entries) m
 abbrev pub waitAt : Replica → Clock → Option (List ℕ)
 waitAt A c = get waits (A .waiting) c
 
+-- there are such members, and m is one of them
+abbrev pub names : Option (List ℕ) → ℕ → Bool
+names none m = false
+names (some ms) m = get memberSets ms m
+
+-- the member is there
+unfoldable pub isIn : Replica → ℕ → Bool
+isIn A m = isSome (rowAt entries (A .entries) m)
+
 -- the member's entry holds the dot (a, n)
+abbrev pub holdsIn : List Entry → ℕ → ℕ → ℕ → Bool
+holdsIn es m a n = eqb (count (get entries es m) a) n
+
 unfoldable pub holds : Replica → ℕ → ℕ → ℕ → Bool
-holds A m a n = eqb (count (entry A m) a) n
+holds A m a n = holdsIn (A .entries) m a n
 
 -- V covers the dot (a, n)
 unfoldable pub seen : Replica → ℕ → ℕ → Bool

@@ -8,7 +8,6 @@ use Rattle.tables.specs.Zip.{zip}
 use Rattle.dots.specs.declared.Dot.{Dot}
 use Rattle.dots.specs.Dot.{clocks}
 use Rattle.dots.specs.Clock.{Clock, count, covers, merged, applied, resetBy}
-use Rattle.replica.specs.Truth.{stays}
 use Rattle.replica.specs.Replica.{Entry, Wait, Replica, entry?, clockOf, entries, waits, memberSets, entry, waitAt, holds, seen}
 
 -- an argument list: "duplicates and any order allowed; an empty list too"
@@ -34,12 +33,11 @@ removesFrom [] es = es
 removesFrom (w ∷ ws) es = removesFrom ws (removeFrom w es)
 
 -- "Applying waiting removes again: each resets its members' entries; those whose clock V covers are gone, the rest stay."
+abbrev pub uncovered : Clock → List Wait → List Wait
+uncovered v ws = collect (λ w. pick (covers v (w .clock)) none (some w)) ws
+
 unfoldable pub settle : Replica → Replica
-settle A = record {
-  clock = A .clock;
-  entries = removesFrom (A .waiting) (A .entries);
-  waiting = collect (λ w. pick (covers (A .clock) (w .clock)) none (some w)) (A .waiting);
-}
+settle A = record { clock = A .clock; entries = removesFrom (A .waiting) (A .entries); waiting = uncovered (A .clock) (A .waiting) }
 
 -- "Add: if V covers the dot (counter 0 always), nothing changes. Otherwise each listed member's clock takes the dot, V takes it,
 -- then all waiting removes are applied again."
@@ -60,7 +58,7 @@ remove c ms A = record {
 
 -- "Merge: a dot stays in a member's entry if both hold it, or one holds it and the other's V doesn't cover it."
 unfoldable pub stay : Replica → Replica → ℕ → ℕ → ℕ → Bool
-stay A B m a n = stays (holds A m a n) (holds B m a n) (seen A a n) (seen B a n)
+stay A B m a n = holds A m a n && holds B m a n || (holds A m a n && not (seen B a n) || holds B m a n && not (seen A a n))
 
 unfoldable pub stayAt : Replica → Replica → ℕ → ℕ → ℕ
 stayAt A B m a = pick (stay A B m a (count (entry A m) a)) (count (entry A m) a) (pick (stay A B m a (count (entry B m) a)) (count (entry B m) a) 0)

@@ -120,6 +120,9 @@ pub map-id : {R : Type 0} (rs : List R) → map (λ r. r) rs ≡ rs
 map-id [] = refl
 map-id {R} (r ∷ rs) = ap (λ (l : List R). r ∷ l) (map-id rs)
 
+pub every-map : {R : Type 0} (p q : R → Bool) (rs : List R) → ((r : R) → T (p r) → T (q r)) → T (every p rs) → T (every q rs)
+every-map p q rs f t = all-every q rs (all-map (λ r. T (p r)) (λ r. T (q r)) rs f (every-all p rs t))
+
 -- what `cons?` and `collect` keep
 pub all-cons? : {R : Type 0} (P : R → Type 0) (o : Option R) (rs : List R) → ((r : R) → o ≡ some r → P r) → All P rs → All P (cons? o rs)
 all-cons? P none rs h t = t
@@ -478,3 +481,73 @@ module _ (S : Kind) where
 
   pub join-nil : (f : S .Key → S .Val) (y : S .Row) (ys : List (S .Row)) → join S f [] (y ∷ ys) ≡ cons? (S .row (S .key y) (f (S .key y))) (join S f [] ys)
   join-nil f y ys = refl
+
+-- ---- the row under a key
+
+abbrev pub rowAt : (S : Kind) → List (S .Row) → S .Key → Option (S .Row)
+rowAt S t k = find (S .cmp) (S .key) k t
+
+module _ (S : Kind) where
+  pub key-at : (t : List (S .Row)) (k : S .Key) (r : S .Row) → rowAt S t k ≡ some r → k ≡ S .key r
+  key-at t k r e = find-key (S .cmp) (S .order) (S .key) k t r e
+
+  -- a value, by whether the key has a row
+  pub by-row : (P : S .Val → Type 0) (t : List (S .Row)) (k : S .Key)
+      → P (S .val none) → ((r : S .Row) → rowAt S t k ≡ some r → P (S .val (some r))) → P (get S t k)
+  by-row P t k n s = go (rowAt S t k) refl
+    where
+      go : (o : Option (S .Row)) → rowAt S t k ≡ o → P (S .val o)
+      go none e = n
+      go (some r) e = s r e
+
+  -- what holds of all rows holds of the row under a key; what holds of each row under its key holds of all
+  pub all-at : (P : S .Row → Type 0) (t : List (S .Row)) → All P t → (k : S .Key) (r : S .Row) → rowAt S t k ≡ some r → P r
+  all-at P t h k r e = find-all (S .cmp) (S .order) (S .key) P k t r h e
+
+  pub at-all : (P : S .Row → Type 0) (t : List (S .Row)) → Normal S t → ((r : S .Row) → rowAt S t (S .key r) ≡ some r → Proper S r → P r) → All P t
+  at-all P t h f = all-both (λ r. rowAt S t (S .key r) ≡ some r) (Proper S) P t f (all-find (S .cmp) (S .order) (S .key) t (h .asc)) (h .proper)
+
+  -- the same for tests
+  pub every-at : (p : S .Row → Bool) (t : List (S .Row)) → T (every p t) → (k : S .Key) (r : S .Row) → rowAt S t k ≡ some r → T (p r)
+  every-at p t h k r e = all-at (λ r. T (p r)) t (every-all p t h) k r e
+
+  pub at-every : (p : S .Row → Bool) (t : List (S .Row)) → Normal S t → ((r : S .Row) → rowAt S t (S .key r) ≡ some r → Proper S r → T (p r)) → T (every p t)
+  at-every p t h f = all-every p t (at-all (λ r. T (p r)) t h f)
+
+  pub any-at : (p : S .Row → Bool) (t : List (S .Row)) → Normal S t → T (any p t) → (r : S .Row) × (rowAt S t (S .key r) ≡ some r) × T (p r)
+  any-at p t h a = any-from (λ r. rowAt S t (S .key r) ≡ some r) p t (at-all (λ r. rowAt S t (S .key r) ≡ some r) t h (λ r e q. e)) a
+
+  pub at-any : (p : S .Row → Bool) (t : List (S .Row)) (k : S .Key) (r : S .Row) → rowAt S t k ≡ some r → T (p r) → T (any p t)
+  at-any p t k r e a = any-to (S .cmp) (S .order) (S .key) p k t r e a
+
+-- ---- a table whose rows are changed or dropped one by one: `f` does to a row what `g` does to its key's value
+
+collect-same : {R Q : Type 0} (P : R → Type 0) (f h : R → Option Q) (rs : List R) → ((r : R) → P r → f r ≡ h r) → All P rs → collect f rs ≡ collect h rs
+collect-same P f h [] e a = refl
+collect-same P f h (r ∷ rs) e a = ap₂ cons? (e r (a .0)) (collect-same P f h rs e (a .1))
+
+module _ (S : Kind) (f : S .Row → Option (S .Row)) (g : S .Key → S .Val → S .Val)
+    (says : (r : S .Row) → Proper S r → f r ≡ S .row (S .key r) (g (S .key r) (S .val (some r)))) where
+  abbrev byValue : S .Row → Option (S .Row)
+  byValue r = S .row (S .key r) (g (S .key r) (S .val (some r)))
+
+  same-rows : (t : List (S .Row)) → Normal S t → collect f t ≡ collect byValue t
+  same-rows t h = collect-same (Proper S) f byValue t says (h .proper)
+
+  own-key : (r q : S .Row) → byValue r ≡ some q → S .key q ≡ S .key r
+  own-key r q e = S .key-row (S .key r) (g (S .key r) (S .val (some r))) q e
+
+  pub normal-sift : (t : List (S .Row)) → Normal S t → Normal S (collect f t)
+  normal-sift t h = rw (same-rows t h) (record { asc = asc-sift (S .cmp) (S .order) (S .key) byValue own-key t (h .asc); proper = all-collect (Proper S) byValue t good })
+    where
+      good : (r q : S .Row) → byValue r ≡ some q → Proper S q
+      good r q e = ap₂ (S .row) (own-key r q e) (ap (S .val) (sym e) ∙ S .val-row (S .key r) (g (S .key r) (S .val (some r)))) ∙ e
+
+  pub get-sift : ((k : S .Key) → g k (S .val none) ≡ S .val none) → (t : List (S .Row)) → Normal S t → (k : S .Key) → get S (collect f t) k ≡ g k (get S t k)
+  get-sift z t h k =
+      ap (λ (u : List (S .Row)). get S u k) (same-rows t h)
+      ∙ ap (S .val) (find-sift (S .cmp) (S .order) (S .key) byValue own-key k t (h .asc)) ∙ go (rowAt S t k) refl
+    where
+      go : (o : Option (S .Row)) → rowAt S t k ≡ o → S .val (after o byValue) ≡ g k (S .val o)
+      go none e = sym (z k)
+      go (some r) e = rw (key-at S t k r e) (S .val-row (S .key r) (g (S .key r) (S .val (some r))))

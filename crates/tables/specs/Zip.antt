@@ -12,7 +12,7 @@ use lib.ListN.{length, take, drop, getD, length-take, drop-of-length-le}
 use lib.Seq.{slice, slice-cons}
 use borrow.Author.Tests.{eq-eqb, ne-eqb, ltb-true, ltb-false}
 use Rattle.tables.specs.Order.{Order, self, lt-gt, gt-lt, nat-order, nat-lt, lt-nat}
-use Rattle.tables.specs.Table.{Kind, get, join, collect, cons?, union, find, hit, pick, Below, Asc, find-below, below-trans, below-union, ins-first, union-gt, union-eq}
+use Rattle.tables.specs.Table.{Kind, Normal, get, join, get-join, normal-join, collect, cons?, union, find, hit, pick, Below, Asc, find-below, below-trans, below-union, ins-first, union-gt, union-eq}
 
 -- ---- what a row of a table says does not matter to the keys after it
 
@@ -29,6 +29,15 @@ tail (r ∷ rs) = rs
 module _ (S : Kind) where
   unfoldable pub zip : (S .Key → S .Val → S .Val → S .Val) → List (S .Row) → List (S .Row) → List (S .Row)
   zip h xs ys = join S (λ k. h k (get S xs k) (get S ys k)) xs ys
+
+  pub get-zip : (h : S .Key → S .Val → S .Val → S .Val) (xs ys : List (S .Row)) → ((k : S .Key) → h k (S .val none) (S .val none) ≡ S .val none)
+      → (k : S .Key) → get S (zip h xs ys) k ≡ h k (get S xs k) (get S ys k)
+  unfolding zip
+  get-zip h xs ys z k = get-join S (λ k. h k (get S xs k) (get S ys k)) xs ys (λ k e f. ap₂ (h k) e f ∙ z k) k
+
+  pub normal-zip : (h : S .Key → S .Val → S .Val → S .Val) (xs ys : List (S .Row)) → Normal S ys → Normal S (zip h xs ys)
+  unfolding zip
+  normal-zip h xs ys n = normal-join S (λ k. h k (get S xs k) (get S ys k)) xs ys n
 
   pub get-first : (x : S .Row) (xs : List (S .Row)) → get S (x ∷ xs) (S .key x) ≡ S .val (some x)
   get-first x xs = ap (λ (o : Ordering). S .val (hit o x (find (S .cmp) (S .key) (S .key x) xs))) (self (S .cmp) (S .order) (S .key x))
