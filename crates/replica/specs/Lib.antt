@@ -8,6 +8,9 @@ pub mod Wf
 pub mod Kills
 pub mod Limits
 pub mod Literal
+pub mod Settle
+pub mod Listed
+pub mod AddLaws
 pub mod Member
 pub mod History
 pub mod Validate
