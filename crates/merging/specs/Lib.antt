@@ -1,2 +1,3 @@
 pub mod Entries
 pub mod Waits
+pub mod Merge
