@@ -11,6 +11,8 @@ pub mod Literal
 pub mod Settle
 pub mod Listed
 pub mod AddLaws
+pub mod Waits
+pub mod RemoveLaws
 pub mod Member
 pub mod History
 pub mod Validate
