@@ -1,12 +1,12 @@
 -- "Contents first, then bodies; little-endian; no gaps." A replica's image, written; and read in two stages: what the bytes say, and
 -- whether that is a well-formed replica.
-use mathlib.Core.Bool.{Bool, true, false, _&&_}
+use mathlib.Core.Bool.{Bool, _&&_}
 use mathlib.Core.Option.{Option, none, some}
 use mathlib.Core.List.{List, [], _∷_, _++_}
 use Prim.Native.Nat.{ℕ, _+_}
 use lib.Dec.{leb, eqb}
 use lib.ListN.{length}
-use Rattle.tables.specs.Table.{pick}
+use Rattle.tables.specs.Table.{pick, alls}
 use Rattle.replica.specs.Replica.{Entry, Wait, Replica}
 use Rattle.replica.specs.Limits.{Limits, full, wellFormed}
 use Rattle.layout.specs.Fields.{u16At, u32At, le16, le32}
@@ -51,20 +51,22 @@ module _ (A : Width) where
   unfoldable pub lengthOf : Replica → ℕ
   lengthOf r = waitsFrom r + length (bytesOf (encodeWaitIn A) (r .waiting))
 
+  unfoldable pub contentsOf : Replica → List ℕ
+  contentsOf r = contents (lengthOf r) (rowsFrom r) (length (r .entries)) (waitsFrom r) (length (r .waiting))
+
   unfoldable pub encodeIn : Replica → List ℕ
-  encodeIn r =
-      contents (lengthOf r) (rowsFrom r) (length (r .entries)) (waitsFrom r) (length (r .waiting))
-      ++ (encodeClockIn A (r .clock) ++ (bytesOf (encodeRowIn A) (r .entries) ++ bytesOf (encodeWaitIn A) (r .waiting)))
+  encodeIn r = contentsOf r ++ (encodeClockIn A (r .clock) ++ (bytesOf (encodeRowIn A) (r .entries) ++ bytesOf (encodeWaitIn A) (r .waiting)))
 
   -- ---- first stage: what the bytes say
 
   -- contents and rows, by their own counts, fill the named parts exactly. "The lent image is exactly its total length."
   unfoldable pub readableIn : List ℕ → Bool
-  readableIn s =
-      leb 24 (length s) && (eqb (version s) 1 && (eqb (zeroField s) 0 && (eqb (totalLength s) (length s)
-      && (eqb (entriesStart s) (clockEndIn A s 24)
-      && (eqb (waitsStart s) (endAfter (rowEndIn A) s (entriesStart s) (entriesCount s))
-      && eqb (endAfter (waitEndIn A) s (waitsStart s) (waitsCount s)) (length s))))))
+  readableIn s = alls
+      (leb 24 (length s) ∷ eqb (version s) 1 ∷ eqb (zeroField s) 0 ∷ eqb (totalLength s) (length s)
+      ∷ eqb (entriesStart s) (clockEndIn A s 24)
+      ∷ eqb (waitsStart s) (endAfter (rowEndIn A) s (entriesStart s) (entriesCount s))
+      ∷ eqb (length s) (endAfter (waitEndIn A) s (waitsStart s) (waitsCount s))
+      ∷ [])
 
   unfoldable pub imageIn : List ℕ → Replica
   imageIn s = record {

@@ -4,3 +4,8 @@ pub mod Clock
 pub mod Rows
 pub mod Image
 pub mod Good
+pub mod Held
+pub mod Form
+pub mod Fits
+pub mod Parts
+pub mod Round
