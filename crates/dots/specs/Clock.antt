@@ -1,6 +1,5 @@
 -- A clock as the list of its dots, and document 01's operations on it.
-use Prim.Native.Nat.{ℕ, zero, suc, _+_, compare, max, min, Ordering}
-use mathlib.Core.Path.{_≡_, refl}
+use Prim.Native.Nat.{ℕ, zero, _+_, compare, max, min, Ordering}
 use mathlib.Core.Bool.{Bool, true, false, _&&_}
 use mathlib.Core.Option.{Option, none, some}
 use mathlib.Core.List.{List, [], _∷_, map}
@@ -46,6 +45,17 @@ applied c d = merged c (d ∷ [])
 -- "`reset_remove` by c drops each actor whose counter c covers"
 unfoldable pub resetBy : Clock → Clock → Clock
 resetBy c x = collect (λ d. pick (coversDot c d) none (some d)) x
+
+-- "`intersection` keeps dots equal in both."
+abbrev pub holdsDot : Clock → Dot → Bool
+holdsDot c d = eqb (count c (actorOf d)) (d .counter)
+
+unfoldable pub intersection : Clock → Clock → Clock
+intersection x c = collect (λ d. pick (holdsDot c d) (some d) none) x
+
+-- "`glb` takes the smaller counter per actor and drops zeros."
+unfoldable pub glb : Clock → Clock → Clock
+glb x c = zip clocks (λ a. min) x c
 
 -- the image's order: "pairs compared in turn, actor then counter; a proper prefix first"
 abbrev pub cmpClock : Clock → Clock → Ordering

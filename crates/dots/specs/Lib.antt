@@ -3,3 +3,5 @@ pub mod Calls
 pub mod Clock
 pub mod ClockLaws
 pub mod Rising
+pub mod Covering
+pub mod Ruled

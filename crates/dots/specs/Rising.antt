@@ -1,8 +1,8 @@
 -- A clock's rule as a loop tests it, from the lowest actor allowed on; and that it is the rule.
-use Prim.Native.Nat.{ℕ, zero, suc, _+_, _≤_, _<_, compare}
-use mathlib.Core.Path.{_≡_, refl, sym}
+use Prim.Native.Nat.{ℕ, zero, _+_, _≤_, _<_, compare}
+use mathlib.Core.Path.{_≡_, refl}
 use mathlib.Core.Bool.{Bool, true, false, _&&_, false≢true}
-use mathlib.Core.List.{List, [], _∷_, map}
+use mathlib.Core.List.{[], _∷_, map}
 use native.Mathlib.Omega.{arith}
 use lib.Dec.{T, leb, ltb, lt→ltb, ltb→lt}
 use borrow.Author.Tests.{leb-true, le-leb, ltb-true, lt-ltb}

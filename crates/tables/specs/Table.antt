@@ -432,15 +432,19 @@ module _ (S : Kind) where
   own : (f : S .Key → S .Val) (k : S .Key) (r : S .Row) → S .row k (f k) ≡ some r → S .key r ≡ k
   own f k r e = S .key-row k (f k) r e
 
-  pub normal-join : (f : S .Key → S .Val) (s t : List (S .Row)) → Normal S t → Normal S (join S f s t)
-  normal-join f s t h =
+  -- a row that a value makes says something
+  pub proper-row : (k : S .Key) (v : S .Val) (r : S .Row) → S .row k v ≡ some r → Proper S r
+  proper-row k v r e = ap₂ (S .row) (S .key-row k v r e) (ap (S .val) (sym e) ∙ S .val-row k v) ∙ e
+
+  pub asc-join : (f : S .Key → S .Val) (s t : List (S .Row)) → Asc (S .cmp) (map (S .key) t) → Normal S (join S f s t)
+  asc-join f s t h =
       record {
-        asc = asc-collect (S .cmp) (S .order) (S .key) (λ k. S .row k (f k)) (own f) (union (S .cmp) (map (S .key) s) (map (S .key) t)) (asc-union (S .cmp) (S .order) (map (S .key) s) (map (S .key) t) (h .asc));
-        proper = all-collect (Proper S) (λ k. S .row k (f k)) (union (S .cmp) (map (S .key) s) (map (S .key) t)) good;
+        asc = asc-collect (S .cmp) (S .order) (S .key) (λ k. S .row k (f k)) (own f) (union (S .cmp) (map (S .key) s) (map (S .key) t)) (asc-union (S .cmp) (S .order) (map (S .key) s) (map (S .key) t) h);
+        proper = all-collect (Proper S) (λ k. S .row k (f k)) (union (S .cmp) (map (S .key) s) (map (S .key) t)) (λ k. proper-row k (f k));
       }
-    where
-      good : (k : S .Key) (r : S .Row) → S .row k (f k) ≡ some r → Proper S r
-      good k r e = ap₂ (S .row) (own f k r e) (ap (S .val) (sym e) ∙ S .val-row k (f k)) ∙ e
+
+  pub normal-join : (f : S .Key → S .Val) (s t : List (S .Row)) → Normal S t → Normal S (join S f s t)
+  normal-join f s t h = asc-join f s t (h .asc)
 
   pub get-join : (f : S .Key → S .Val) (s t : List (S .Row))
       → ((k : S .Key) → get S s k ≡ S .val none → get S t k ≡ S .val none → f k ≡ S .val none)
@@ -538,10 +542,7 @@ module _ (S : Kind) (f : S .Row → Option (S .Row)) (g : S .Key → S .Val → 
   own-key r q e = S .key-row (S .key r) (g (S .key r) (S .val (some r))) q e
 
   pub normal-sift : (t : List (S .Row)) → Normal S t → Normal S (collect f t)
-  normal-sift t h = rw (same-rows t h) (record { asc = asc-sift (S .cmp) (S .order) (S .key) byValue own-key t (h .asc); proper = all-collect (Proper S) byValue t good })
-    where
-      good : (r q : S .Row) → byValue r ≡ some q → Proper S q
-      good r q e = ap₂ (S .row) (own-key r q e) (ap (S .val) (sym e) ∙ S .val-row (S .key r) (g (S .key r) (S .val (some r)))) ∙ e
+  normal-sift t h = rw (same-rows t h) (record { asc = asc-sift (S .cmp) (S .order) (S .key) byValue own-key t (h .asc); proper = all-collect (Proper S) byValue t (λ r. proper-row S (S .key r) (g (S .key r) (S .val (some r)))) })
 
   pub get-sift : ((k : S .Key) → g k (S .val none) ≡ S .val none) → (t : List (S .Row)) → Normal S t → (k : S .Key) → get S (collect f t) k ≡ g k (get S t k)
   get-sift z t h k =

@@ -12,7 +12,7 @@ use lib.ListN.{length, take, drop, getD, length-take, drop-of-length-le}
 use lib.Seq.{slice, slice-cons}
 use borrow.Author.Tests.{eq-eqb, ne-eqb, ltb-true, ltb-false}
 use Rattle.tables.specs.Order.{Order, self, lt-gt, gt-lt, nat-order, nat-lt, lt-nat}
-use Rattle.tables.specs.Table.{Kind, Normal, get, join, get-join, normal-join, collect, cons?, union, find, hit, pick, Below, Asc, find-below, below-trans, below-union, ins-first, union-gt, union-eq}
+use Rattle.tables.specs.Table.{Kind, Normal, Proper, get, join, ext, get-join, normal-join, normal-sift, get-sift, collect, cons?, union, find, hit, pick, Below, Asc, find-below, below-trans, below-union, ins-first, union-gt, union-eq}
 
 -- ---- what a row of a table says does not matter to the keys after it
 
@@ -260,3 +260,15 @@ module _ (N : Rows) (l : List (N .Row)) (i n e low : ℕ) (d : N .Row) (small : 
 
 pub pick-some : (x low : ℕ) → x ≡ low → _≡_ {A = ℕ} (pick (eqb x low) 1 0) 1
 pick-some x low h = rw (eq-eqb x low h)
+
+-- ---- where the second table alone says nothing, the first one's rows are kept or changed one by one
+
+pub zip-first : (S : Kind) (h : S .Key → S .Val → S .Val → S .Val) (xs ys : List (S .Row)) (f : S .Row → Option (S .Row))
+    → ((r : S .Row) → Proper S r → f r ≡ S .row (S .key r) (h (S .key r) (S .val (some r)) (get S ys (S .key r))))
+    → ((k : S .Key) (w : S .Val) → h k (S .val none) w ≡ S .val none) → Normal S xs → Normal S ys → zip S h xs ys ≡ collect f xs
+unfolding zip
+zip-first S h xs ys f says z nx ny =
+    ext S (join S (λ k. h k (get S xs k) (get S ys k)) xs ys) (collect f xs) (normal-join S (λ k. h k (get S xs k) (get S ys k)) xs ys ny)
+    (normal-sift S f (λ k v. h k v (get S ys k)) says xs nx)
+    (λ k. get-join S (λ k. h k (get S xs k) (get S ys k)) xs ys (λ j p q. ap (λ (v : S .Val). h j v (get S ys j)) p ∙ z j (get S ys j)) k
+    ∙ sym (get-sift S f (λ k v. h k v (get S ys k)) says (λ j. z j (get S ys j)) xs nx k))
