@@ -1,12 +1,12 @@
 -- What an add does, dot by dot.
-use Prim.Native.Nat.{ℕ, zero, suc, _≤_, _<_, max, compare, Ordering, Ordering·lt, Ordering·eq, Ordering·gt}
-use mathlib.Core.Path.{_≡_, refl, sym, ap, ap₂, _∙_, subst}
+use Prim.Native.Nat.{ℕ, suc, _≤_, _<_, max, compare, Ordering, Ordering·lt, Ordering·eq, Ordering·gt}
+use mathlib.Core.Path.{_≡_, refl, ap, ap₂, _∙_}
 use mathlib.Core.Bool.{Bool, true, false, not, _&&_}
-use mathlib.Core.Option.{Option, none, some}
+use mathlib.Core.Option.{none}
 use mathlib.Core.List.{List, [], _∷_, map}
 use native.Mathlib.Omega.{arith}
 use lib.Dec.{T, isEq, leb, ltb, eqb, lt→ltb}
-use borrow.Author.Tests.{eqb-true, eqb-false, leb-false, eq-eqb, ne-eqb}
+use borrow.Author.Tests.{leb-false}
 use Rattle.tables.specs.Order.{nat-order}
 use Rattle.tables.specs.Truth.{and-i}
 use Rattle.tables.specs.Ascending.{ascending, before}

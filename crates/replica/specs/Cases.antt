@@ -1,8 +1,8 @@
 -- Document 01's marked cases 1 to 13, one list under one statement, by computing.
 use mathlib.Core.Path.{_≡_, refl}
 use mathlib.Core.List.{List, [], _∷_, map}
-use mathlib.Core.Bool.{Bool, true, false}
-use mathlib.Core.Option.{Option, none, some}
+use mathlib.Core.Bool.{Bool, false}
+use mathlib.Core.Option.{Option, some}
 use Prim.Native.Nat.{ℕ, zero, suc}
 use Rattle.tables.specs.Zip.{zip}
 use Rattle.tables.specs.Refusal.{firstOf}
@@ -12,7 +12,7 @@ use Rattle.dots.specs.Clock.{Clock, covers, merged, applied, resetBy, gap}
 use Rattle.replica.specs.Replica.{Entry, Wait, Replica, holds, seen}
 use Rattle.replica.specs.Rules.{setOf, unite, joinWaits, removeFrom, removesFrom, settle, takes, add, remove, stay, stayAt, staying, merge, rewait, resetWaits, reset, settled}
 use Rattle.replica.specs.Limits.{full, limitsOf, broken}
-use Rattle.replica.specs.History.{Op, Add, Remove}
+use Rattle.replica.specs.History.{Add}
 use Rattle.replica.specs.Validate.{validateOp}
 
 -- what a case speaks of

@@ -13,6 +13,7 @@ pub mod Listed
 pub mod AddLaws
 pub mod Waits
 pub mod RemoveLaws
+pub mod ResetLaws
 pub mod Member
 pub mod History
 pub mod Validate

@@ -1,10 +1,9 @@
 -- What `contains`, `read` and `read_ctx` answer, on replicas.
-use Prim.Native.Nat.{ℕ, compare}
+use Prim.Native.Nat.{ℕ}
 use mathlib.Core.Bool.{Bool}
 use mathlib.Core.List.{List, map}
-use Rattle.tables.specs.Table.{isSome, find}
 use Rattle.dots.specs.Clock.{Clock}
-use Rattle.replica.specs.Replica.{Replica, entries, entry}
+use Rattle.replica.specs.Replica.{Replica, entry, isIn}
 
 -- "A read context is its add clock, remove clock and answer."
 pub record Read (X : Type 0) : Type 0 where
@@ -14,7 +13,7 @@ pub record Read (X : Type 0) : Type 0 where
 
 -- "`contains` answers V as add clock, the entry clock or an empty one as remove clock, and whether it is there."
 unfoldable pub contains : Replica → ℕ → Read Bool
-contains A m = record { add-clock = A .clock; rm-clock = entry A m; answer = isSome (find compare (entries .key) m (A .entries)) }
+contains A m = record { add-clock = A .clock; rm-clock = entry A m; answer = isIn A m }
 
 -- "`read` and `read_ctx` answer V twice; `read` writes the members ascending"
 unfoldable pub read : Replica → Read (List ℕ)

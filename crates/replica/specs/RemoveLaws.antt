@@ -1,24 +1,22 @@
 -- What a remove does, dot by dot.
-use Prim.Native.Nat.{ℕ, zero, suc, _≤_, Ordering, Ordering·lt, Ordering·eq, Ordering·gt}
+use Prim.Native.Nat.{ℕ, suc, Ordering, Ordering·lt, Ordering·eq, Ordering·gt}
 use mathlib.Core.Path.{_≡_, refl, sym, ap, ap₂, _∙_, subst}
 use mathlib.Core.Logic.{_≢_}
 use mathlib.Core.Bool.{Bool, true, false, not, _&&_, _||_, or-false, and-true, false≢true}
 use mathlib.Core.Option.{Option, none, some}
 use mathlib.Core.List.{List, [], _∷_}
 use native.Mathlib.Nat.{le-trans}
-use native.Mathlib.Omega.{arith}
-use lib.Dec.{T, T-not, isEq, leb, eqb, leb·suc-zero}
-use Rattle.tables.specs.Truth.{and-l, and-r, and-i, or-l, or-r, or-e, bool-ext}
-use Rattle.tables.specs.Table.{get, Normal, pick, isSome, any, hit, find, get-join, normal-join}
-use Rattle.tables.specs.Zip.{zip}
+use lib.Dec.{T, T-not, leb, eqb, leb·suc-zero}
+use Rattle.tables.specs.Truth.{and-l, and-r, or-e}
+use Rattle.tables.specs.Table.{get, Normal, pick, isSome, any, hit}
 use Rattle.dots.specs.Dot.{clocks}
 use Rattle.dots.specs.Clock.{Clock, count, normal, covers, cmpClock, clock-order}
 use Rattle.dots.specs.ClockLaws.{normal-from, normal-to, normal-empty}
-use Rattle.replica.specs.Replica.{Entry, Wait, Replica, entries, waits, memberSets, membersOf, entry, waitAt, holds, kills, killed}
+use Rattle.replica.specs.Replica.{Wait, Replica, entries, waits, memberSets, membersOf, entry, waitAt, holds, kills, killed}
 use Rattle.replica.specs.Rules.{setOf, unite, joinWaits, removeFrom, remove}
 use Rattle.replica.specs.ByDots.{Fine}
 use Rattle.replica.specs.Wf.{sound, wf-fine, fine-wf}
-use Rattle.replica.specs.Laws.{names, names-unite, killed-from, killed-to, late-law, same}
+use Rattle.replica.specs.Laws.{late-law, same}
 use Rattle.replica.specs.Literal.{Sound, remove-sound, remove-dot}
 use Rattle.replica.specs.Waits.{one-get, one-normal, unite-none, joined-get, joined-normal, joined-kills}
 use Rattle.replica.specs.Listed.{listed, set-listed, set-normal}

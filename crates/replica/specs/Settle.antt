@@ -1,23 +1,22 @@
 -- "Applying waiting removes again", dot by dot and clock by clock.
-use Prim.Native.Nat.{ℕ, zero, suc, _≤_, compare}
-use mathlib.Core.Path.{_≡_, refl, sym, ap, _∙_, subst}
+use Prim.Native.Nat.{ℕ, zero, suc, _≤_}
+use mathlib.Core.Path.{_≡_, refl, sym, _∙_, subst}
 use mathlib.Core.Logic.{_≢_}
-use mathlib.Core.Bool.{Bool, true, false, not, _&&_, _||_, false≢true}
+use mathlib.Core.Bool.{Bool, true, false, not, _&&_, _||_}
 use mathlib.Core.Option.{Option, none, some}
 use mathlib.Core.List.{List, [], _∷_}
 use native.Mathlib.Nat.{le-trans}
 use native.Mathlib.Omega.{arith}
-use lib.Dec.{T, T-not, not-T, leb, eqb, leb→le, le→leb, eqb→eq, eqb-refl}
-use borrow.Author.Tests.{eq-eqb, eqb-true}
-use Rattle.tables.specs.Truth.{and-l, and-r, and-i, or-l, or-r, or-e}
-use Rattle.tables.specs.Table.{get, Normal, Proper, isSome, pick, pick-both, find, find-key, collect, after, any, cons?, any-from, all-find, asc-sift, find-sift, all-sift}
+use lib.Dec.{T, T-not, leb, eqb, leb→le, le→leb, eqb→eq, eqb-refl}
+use Rattle.tables.specs.Truth.{and-l, and-r, or-l, or-r}
+use Rattle.tables.specs.Table.{get, Normal, pick, pick-both, any, cons?, normal-sift, get-sift}
 use Rattle.dots.specs.Dot.{clocks}
-use Rattle.dots.specs.Clock.{Clock, count, covers, cmpClock, clock-order}
+use Rattle.dots.specs.Clock.{Clock, count, covers}
 use Rattle.dots.specs.ClockLaws.{covers-le}
-use Rattle.replica.specs.Replica.{Entry, Wait, Replica, entries, waits, memberSets, entry, waitAt, holds, seen, kills, killed}
-use Rattle.replica.specs.Rules.{removesFrom, settle, settled}
+use Rattle.replica.specs.Replica.{Wait, Replica, entries, waits, memberSets, wait?, entry, waitAt, names, holds, seen, killed}
+use Rattle.replica.specs.Rules.{removesFrom, uncovered, settle, settled}
 use Rattle.replica.specs.ByDots.{Fine}
-use Rattle.replica.specs.Laws.{names, kept-names, kept-some, killed-from, killed-to}
+use Rattle.replica.specs.Laws.{kept-names, kept-some, killed-from, killed-to}
 use Rattle.replica.specs.Literal.{Sound, removes-dot, removes-sound}
 
 -- ---- the waiting removes whose clock V does not cover
@@ -25,29 +24,21 @@ use Rattle.replica.specs.Literal.{Sound, removes-dot, removes-sound}
 abbrev late? : Clock → Wait → Option Wait
 late? v w = pick (covers v (w .clock)) none (some w)
 
-stayed : (b : Bool) (w x : Wait) → pick b none (some w) ≡ some x → x ≡ w
-stayed true w x p = absurd (false≢true (ap isSome p))
-stayed false w x p = cc
+abbrev late : Clock → Clock → Option (List ℕ) → Option (List ℕ)
+late v c o = pick (covers v c) none o
 
-stayed-clock : (v : Clock) (w x : Wait) → late? v w ≡ some x → x .clock ≡ w .clock
-stayed-clock v w x p = ap (λ (y : Wait). y .clock) (stayed (covers v (w .clock)) w x p)
-
-pub late-normal : (v : Clock) (ws : List Wait) → Normal waits ws → Normal waits (collect (late? v) ws)
-late-normal v ws h = record {
-  asc = asc-sift cmpClock clock-order (waits .key) (late? v) (stayed-clock v) ws (h .asc);
-  proper = all-sift (Proper waits) (Proper waits) (late? v) ws (λ w x k p. refl) (h .proper);
-}
-
-pub late-get : (v : Clock) (ws : List Wait) → Normal waits ws → (c : Clock) → get waits (collect (late? v) ws) c ≡ pick (covers v c) none (get waits ws c)
-late-get v ws h c = ap (waits .val) (find-sift cmpClock clock-order (waits .key) (late? v) (stayed-clock v) c ws (h .asc)) ∙ go (find cmpClock (waits .key) c ws) refl
+late-says : (v : Clock) (w : Wait) → late? v w ≡ wait? (w .clock) (late v (w .clock) (some (w .members)))
+late-says v w = go (covers v (w .clock))
   where
-    val-pick : (b : Bool) (w : Wait) → waits .val (pick b none (some w)) ≡ pick b none (some (w .members))
-    val-pick true w = refl
-    val-pick false w = refl
+    go : (b : Bool) → pick b none (some w) ≡ wait? (w .clock) (pick b none (some (w .members)))
+    go true = refl
+    go false = refl
 
-    go : (o : Option Wait) → find cmpClock (waits .key) c ws ≡ o → waits .val (after o (late? v)) ≡ pick (covers v c) none (waits .val o)
-    go none e = sym (pick-both (covers v c) none)
-    go (some w) e = rw (find-key cmpClock clock-order (waits .key) c ws w e) (val-pick (covers v (w .clock)) w)
+pub late-normal : (v : Clock) (ws : List Wait) → Normal waits ws → Normal waits (uncovered v ws)
+late-normal v ws h = normal-sift waits (late? v) (late v) (λ w p. late-says v w) ws h
+
+pub late-get : (v : Clock) (ws : List Wait) → Normal waits ws → (c : Clock) → get waits (uncovered v ws) c ≡ pick (covers v c) none (get waits ws c)
+late-get v ws h c = get-sift waits (late? v) (late v) (λ w p. late-says v w) (λ c. pick-both (covers v c) none) ws h c
 
 -- ---- settle
 
@@ -131,11 +122,11 @@ settle-fine A h = record {
         left m a n t = and-l (eqb (count (entry A m) a) (suc n)) (not (killed A m a (suc n))) (rw (settle-dot A h m a n) at t)
 
 -- it is settled
-late-none : (v : Clock) (ws : List Wait) → any (λ w. covers v (w .clock)) (collect (late? v) ws) ≡ false
+late-none : (v : Clock) (ws : List Wait) → any (λ w. covers v (w .clock)) (uncovered v ws) ≡ false
 late-none v [] = refl
 late-none v (w ∷ ws) = go (covers v (w .clock)) refl (late-none v ws)
   where
-    go : (b : Bool) → covers v (w .clock) ≡ b → any (λ w. covers v (w .clock)) (collect (late? v) ws) ≡ false → any (λ w. covers v (w .clock)) (cons? (pick b none (some w)) (collect (late? v) ws)) ≡ false
+    go : (b : Bool) → covers v (w .clock) ≡ b → any (λ w. covers v (w .clock)) (uncovered v ws) ≡ false → any (λ w. covers v (w .clock)) (cons? (pick b none (some w)) (uncovered v ws)) ≡ false
     go true e l = l
     go false e l = rw e l
 

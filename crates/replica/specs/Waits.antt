@@ -1,18 +1,18 @@
 -- Waiting removes "joined by equal clock": which are there, and what they cover.
 use Prim.Native.Nat.{ℕ}
-use mathlib.Core.Path.{_≡_, refl, sym, ap, ap₂, _∙_}
-use mathlib.Core.Bool.{Bool, true, false, _&&_, _||_}
+use mathlib.Core.Path.{_≡_, refl, ap₂}
+use mathlib.Core.Bool.{_||_}
 use mathlib.Core.Option.{Option, none, some}
 use mathlib.Core.List.{List, [], _∷_}
 use lib.Dec.{T, leb}
 use Rattle.tables.specs.Order.{self}
 use Rattle.tables.specs.Truth.{or-l, or-r, or-e, bool-ext}
-use Rattle.tables.specs.Table.{get, Normal, any, get-join, normal-join}
+use Rattle.tables.specs.Table.{get, Normal, isSome, any, get-join, normal-join}
 use Rattle.tables.specs.Zip.{zip}
 use Rattle.dots.specs.Clock.{Clock, count, cmpClock, clock-order}
-use Rattle.replica.specs.Replica.{Wait, Replica, waits, waitAt, kills, killed}
+use Rattle.replica.specs.Replica.{Wait, Replica, waits, names, kills, killed}
 use Rattle.replica.specs.Rules.{unite, joinWaits}
-use Rattle.replica.specs.Laws.{names, names-unite, killed-from, killed-to}
+use Rattle.replica.specs.Laws.{names-unite, killed-from, killed-to}
 
 pub one-get : (w : Wait) → get waits (w ∷ []) (w .clock) ≡ some (w .members)
 one-get w = rw (self cmpClock clock-order (w .clock))
@@ -56,3 +56,9 @@ joined-kills xs ys h g m a n = bool-ext (killed (only (joinWaits xs ys)) m a n) 
     back t = or-e (killed (only xs) m a n) (killed (only ys) m a n) t
         (λ u. let w = killed-from (only xs) m a n h u in one (w .0) (or-l (names (get waits xs (w .0)) m) (names (get waits ys (w .0)) m) (w .1)) (w .2))
         (λ u. let w = killed-from (only ys) m a n g u in one (w .0) (or-r (names (get waits xs (w .0)) m) (names (get waits ys (w .0)) m) (w .1)) (w .2))
+
+pub there-unite : (x y : Option (List ℕ)) → isSome (unite x y) ≡ (isSome x || isSome y)
+unfolding unite
+there-unite none y = refl
+there-unite (some x) none = refl
+there-unite (some x) (some y) = refl
