@@ -9,3 +9,4 @@ pub mod Form
 pub mod Fits
 pub mod Parts
 pub mod Round
+pub mod Kit
