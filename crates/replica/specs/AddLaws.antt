@@ -1,7 +1,7 @@
 -- What an add does, dot by dot.
 use Prim.Native.Nat.{ℕ, suc, _≤_, _<_, max, compare, Ordering, Ordering·lt, Ordering·eq, Ordering·gt}
-use mathlib.Core.Path.{_≡_, refl, ap, ap₂, _∙_}
-use mathlib.Core.Bool.{Bool, true, false, not, _&&_}
+use mathlib.Core.Path.{_≡_, refl, sym, ap, ap₂, _∙_, subst}
+use mathlib.Core.Bool.{Bool, true, false, not, _&&_, _||_}
 use mathlib.Core.Option.{none}
 use mathlib.Core.List.{List, [], _∷_, map}
 use native.Mathlib.Omega.{arith}
@@ -16,12 +16,12 @@ use Rattle.dots.specs.declared.Dot.{Dot}
 use Rattle.dots.specs.Dot.{clocks, actorOf, counterOf}
 use Rattle.dots.specs.Clock.{Clock, count, normal, covers, merged, applied}
 use Rattle.dots.specs.ClockLaws.{normal-from, normal-empty, merged-count, merged-normal}
-use Rattle.replica.specs.Replica.{Entry, Replica, entries, clockOf, entry, waitAt, holds, killed}
+use Rattle.replica.specs.Replica.{Entry, Replica, entries, clockOf, entry, waitAt, holds, seen, killed}
 use Rattle.replica.specs.Rules.{setOf, takes, settle, settled, add}
 use Rattle.replica.specs.Wf.{sound, wf-fine, fine-wf}
 use Rattle.replica.specs.ByDots.{Fine}
 use Rattle.replica.specs.Listed.{listed, set-listed}
-use Rattle.replica.specs.Settle.{Loose, settle-clock, settle-holds, settle-wait, settle-fine, settle-settled}
+use Rattle.replica.specs.Settle.{Loose, settle-clock, settle-holds, settle-wait, settle-fine, settle-more, settle-settled}
 
 -- ---- each listed member's clock takes the dot
 
@@ -90,18 +90,19 @@ taken-killed : (d : Dot) (ms : List ℕ) (A : Replica) (m a n : ℕ) → killed 
 unfolding killed
 taken-killed d ms A m a n = refl
 
-module _ (d : Dot) (ms : List ℕ) (A : Replica) (h : Fine A) (new : covers (A .clock) (d ∷ []) ≡ false) where
-  above : count (A .clock) (actorOf d) < d .counter
-  unfolding covers
-  above = leb-false (d .counter) (count (A .clock) (actorOf d)) (go (leb (d .counter) (count (A .clock) (actorOf d))) new)
-    where
-      go : (b : Bool) → (b && true) ≡ false → b ≡ false
-      go true e = e
-      go false e = refl
+-- a dot that V doesn't cover is above V's counter
+pub above : (v : Clock) (d : Dot) → covers v (d ∷ []) ≡ false → count v (actorOf d) < d .counter
+unfolding covers
+above v d new = leb-false (d .counter) (count v (actorOf d)) (go (leb (d .counter) (count v (actorOf d))) new)
+  where
+    go : (b : Bool) → (b && true) ≡ false → b ≡ false
+    go true e = e
+    go false e = refl
 
+module _ (d : Dot) (ms : List ℕ) (A : Replica) (h : Fine A) (new : covers (A .clock) (d ∷ []) ≡ false) where
   single : Normal clocks (d ∷ [])
   unfolding normal ascending before
-  single = normal-from (d ∷ []) (and-i (ltb 0 (d .counter)) true (lt→ltb 0 (d .counter) (let k = above in omega arith)) tt)
+  single = normal-from (d ∷ []) (and-i (ltb 0 (d .counter)) true (lt→ltb 0 (d .counter) (let k = above (A .clock) d new in omega arith)) tt)
 
   taken-clock : (a : ℕ) → count (applied (A .clock) d) a ≡ max (count (A .clock) a) (count (d ∷ []) a)
   unfolding applied
@@ -115,7 +116,7 @@ module _ (d : Dot) (ms : List ℕ) (A : Replica) (h : Fine A) (new : covers (A .
       (λ e. lower (nat-order .same a (actorOf d) e))
     where
       lower : a ≡ actorOf d → count (entry A m) a < d .counter
-      lower s = let k = above in let w = h .within m a in let v : count (A .clock) a ≡ count (A .clock) (actorOf d) = ap (count (A .clock)) s in omega arith
+      lower s = let k = above (A .clock) d new in let w = h .within m a in let v : count (A .clock) a ≡ count (A .clock) (actorOf d) = ap (count (A .clock)) s in omega arith
 
   taken-loose : Loose (taken d ms A)
   unfolding applied takes zip
@@ -147,6 +148,8 @@ pub record Added (d : Dot) (ms : List ℕ) (A R : Replica) : Type 0 where
   pub holds-is : (m a n : ℕ) → holds R m a (suc n) ≡ (pick (listed ms m && eqb a (actorOf d)) (eqb (d .counter) (suc n)) (holds A m a (suc n)) && not (killed A m a (suc n)))
   -- the waiting removes that the new V covers are gone
   pub wait-is : (c : Clock) → waitAt R c ≡ pick (covers (R .clock) c) none (waitAt A c)
+  -- what a waiting remove covers, one still does, or V does
+  pub killed-kept : (m a n : ℕ) → T (killed A m a n) → T (killed R m a n || seen R a n)
   pub is-settled : settled R ≡ true
   pub is-sound : T (sound R)
 
@@ -156,6 +159,7 @@ added d ms A s new = rw new (record {
   clock-is = λ a. ap (λ (c : Clock). count c a) (settle-clock (taken d ms A)) ∙ taken-clock d ms A h new a;
   holds-is = λ m a n. settle-holds (taken d ms A) l m a n ∙ ap₂ (λ (x y : Bool). x && not y) (taken-holds d ms A h new m a n) (taken-killed d ms A m a (suc n));
   wait-is = λ c. rw (settle-clock (taken d ms A)) (settle-wait (taken d ms A) l c);
+  killed-kept = λ m a n t. settle-more (taken d ms A) l m a n (subst T (sym (taken-killed d ms A m a n)) t);
   is-settled = settle-settled (taken d ms A);
   is-sound = fine-wf (settle (taken d ms A)) (settle-fine (taken d ms A) l);
 })

@@ -20,3 +20,5 @@ pub mod Validate
 pub mod Reads
 pub mod Cases
 pub mod Main
+pub mod MergeLaws
+pub mod StaysDown

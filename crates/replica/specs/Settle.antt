@@ -84,8 +84,8 @@ module _ (A : Replica) (h : Loose A) (m a n : ℕ) where
       killed-to A m a n (w .0) (kept-names (covers (A .clock) (w .0)) (waitAt A (w .0)) m (rw (settle-wait A h (w .0)) at (w .1))) (w .2)
 
   -- and what no longer waits covers only what V covers
-  pub settle-more : T (killed A m a n) → T (killed (settle A) m a n || seen A a n)
-  unfolding seen
+  pub settle-more : T (killed A m a n) → T (killed (settle A) m a n || seen (settle A) a n)
+  unfolding seen settle
   settle-more t = let w = killed-from A m a n (h .waiting-ok) t in go (w .0) (w .1) (w .2) (covers (A .clock) (w .0)) refl
     where
       go : (c : Clock) → T (names (waitAt A c) m) → T (leb n (count c a)) → (b : Bool) → covers (A .clock) c ≡ b → T (killed (settle A) m a n || leb n (count (A .clock) a))
