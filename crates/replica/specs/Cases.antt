@@ -8,7 +8,9 @@ use Rattle.tables.specs.Zip.{zip}
 use Rattle.tables.specs.Refusal.{firstOf}
 use Rattle.dots.specs.declared.DotRange.{DotRange}
 use Rattle.dots.specs.Dot.{dot}
-use Rattle.dots.specs.Clock.{Clock, covers, merged, applied, resetBy, gap}
+use Rattle.dots.specs.declared.Comparison.the-variants.{Greater, None}
+use Rattle.dots.specs.Calls.{Standing, standing, means}
+use Rattle.dots.specs.Clock.{Clock, covers, merged, applied, resetBy, intersection, gap}
 use Rattle.replica.specs.Replica.{Entry, Wait, Replica, holds, seen}
 use Rattle.replica.specs.Rules.{setOf, unite, joinWaits, removeFrom, removesFrom, settle, takes, add, remove, stay, stayAt, staying, merge, rewait, resetWaits, reset, settled}
 use Rattle.replica.specs.Limits.{full, limitsOf, broken}
@@ -17,6 +19,7 @@ use Rattle.replica.specs.Validate.{validateOp}
 
 -- what a case speaks of
 pub data Value : Type 0 where
+  Compared : Standing → Value
   Clocked : Clock → Value
   Replicated : Replica → Value
   Gap : Option DotRange → Value
@@ -64,16 +67,26 @@ both = dot 1 1 ∷ dot 2 1 ∷ []
 abbrev after12 : Replica
 after12 = reset (dot 1 2 ∷ []) (rep (dot 2 5 ∷ []) [] (wait (dot 1 2 ∷ dot 2 3 ∷ []) (5 ∷ []) ∷ []))
 
+-- "Equal if the same; Greater if the first covers the second; Less if the second covers the first; otherwise none"
+abbrev against : Clock → Clock → Standing
+against c d = standing (covers c d) (covers d c)
+
 -- ---- the list
 
 abbrev pub cases : List Case
 cases =
+    -- "{1:1} against {}: Greater."
+    record { number = 1; given = Compared (against (dot 1 1 ∷ []) []) ∷ []; expected = Compared (means Greater) ∷ [] }
+    -- "{1:1} against {2:1}: none."
+    ∷ record { number = 2; given = Compared (against (dot 1 1 ∷ []) (dot 2 1 ∷ [])) ∷ []; expected = Compared (means None) ∷ [] }
     -- "{1:1,2:1} reset by {1:1,3:9}: {2:1}; {1:2} reset by {1:1}: unchanged."
-    record {
+    ∷ record {
       number = 3;
       given = Clocked (resetBy (dot 1 1 ∷ dot 3 9 ∷ []) (dot 1 1 ∷ dot 2 1 ∷ [])) ∷ Clocked (resetBy (dot 1 1 ∷ []) (dot 1 2 ∷ [])) ∷ [];
       expected = Clocked (dot 2 1 ∷ []) ∷ Clocked (dot 1 2 ∷ []) ∷ [];
     }
+    -- "`intersection` of {1:2,2:3} and {1:2,2:4}: {1:2}."
+    ∷ record { number = 4; given = Clocked (intersection (dot 1 2 ∷ dot 2 3 ∷ []) (dot 1 2 ∷ dot 2 4 ∷ [])) ∷ []; expected = Clocked (dot 1 2 ∷ []) ∷ [] }
     -- "Empty replica, add 1.1 of 5: E."
     ∷ record { number = 5; given = Replicated (add (dot 1 1) (5 ∷ []) empty) ∷ []; expected = Replicated E ∷ [] }
     -- "E, add 1.3 of 6: V {1:3}, 5 {1:1}, 6 {1:3}; `validate_op` had said start 2, end 3."
@@ -114,9 +127,13 @@ cases =
     }
     ∷ []
 
+-- none is left out
+pub numbered : map (λ c. c .number) cases ≡ 1 ∷ 2 ∷ 3 ∷ 4 ∷ 5 ∷ 6 ∷ 7 ∷ 8 ∷ 9 ∷ 10 ∷ 11 ∷ 12 ∷ 13 ∷ []
+numbered = refl
+
 -- in every case the definitions give what document 01 says
 pub marked : map (λ c. c .given) cases ≡ map (λ c. c .expected) cases
-unfolding covers merged applied resetBy gap zip holds seen setOf unite joinWaits removeFrom removesFrom settle takes add remove stay stayAt staying merge rewait resetWaits reset settled validateOp
+unfolding covers merged applied resetBy intersection gap zip holds seen setOf unite joinWaits removeFrom removesFrom settle takes add remove stay stayAt staying merge rewait resetWaits reset settled validateOp
 marked = refl
 
 -- ---- "At the limits: 16 actors granted, a 17th refused with 6; 64 members granted, 65 refused with 7; an add of a 65th member that a waiting
