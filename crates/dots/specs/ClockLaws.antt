@@ -9,7 +9,7 @@ use mathlib.Core.List.{List, [], _∷_, map}
 use native.Mathlib.Omega.{arith}
 use native.Mathlib.Nat.{le-trans, not-suc-le-zero}
 use lib.Dec.{T, leb, ltb, eqb, leb→le, le→leb, lt→ltb, ltb→lt, eqb·zero-suc}
-use borrow.Author.Tests.{eqb-true, leb-true, leb-false, le-leb, lt-leb}
+use borrow.Author.Tests.{eqb-true, eq-eqb, leb-true, leb-false, le-leb, lt-leb}
 use Rattle.tables.specs.Order.{nat-order}
 use Rattle.tables.specs.Truth.{and-l, and-r, and-i}
 use Rattle.tables.specs.Table.{Normal, Proper, every, all-map, every-all, all-every, every-map, by-row, key-at, every-at, at-every, normal-sift, get-sift, pick, pick-both, isSome, ext}
@@ -153,3 +153,14 @@ reset-nat x y n = go (leb x y) refl (eqb x (suc n)) refl
 -- one dot of a clock that is reset: held before, and not covered
 pub reset-dot : (w c : Clock) → Normal clocks c → (a n : ℕ) → eqb (count (resetBy w c) a) (suc n) ≡ (eqb (count c a) (suc n) && not (leb (suc n) (count w a)))
 reset-dot w c h a n = rw (reset-count w c h a) (reset-nat (count c a) (count w a) n)
+
+-- ---- a counter by the dots that it is: at most one, and none where it is 0
+
+pub nat-ext : (x y : ℕ) → ((n : ℕ) → eqb x (suc n) ≡ eqb y (suc n)) → x ≡ y
+nat-ext zero zero f = refl
+nat-ext zero (suc y) f = absurd (false≢true (sym (eqb·zero-suc y) ∙ f y ∙ eq-eqb (suc y) (suc y) refl))
+nat-ext (suc x) y f = sym (eqb-true y (suc x) (sym (f x) ∙ eq-eqb (suc x) (suc x) refl))
+
+-- two normalised clocks with the same dots are equal
+pub dots-ext : (c d : Clock) → Normal clocks c → Normal clocks d → ((a n : ℕ) → eqb (count c a) (suc n) ≡ eqb (count d a) (suc n)) → c ≡ d
+dots-ext c d h g f = clock-ext c d h g (λ a. nat-ext (count c a) (count d a) (f a))

@@ -10,7 +10,7 @@ use Rattle.dots.specs.Clock.{Clock, covers, cmpClock}
 use Rattle.dots.specs.Rising.{rising}
 use Rattle.replica.specs.Replica.{Entry, Wait, Replica}
 use Rattle.replica.specs.Limits.{Limits, full}
-use Rattle.replica.specs.Wf.{spared}
+use Rattle.replica.specs.WellFormed.{spared}
 use Rattle.layout.specs.Fields.{u32At}
 use Rattle.layout.specs.Lists.{endAfter}
 use Rattle.layout.specs.Clock.{Width, narrow, clockIn, clockEndIn}

@@ -10,19 +10,19 @@ use lib.Dec.{eqb, ltb, leb, T}
 use lib.ListN.{length}
 use borrow.Author.Tests.{eq-eqb, ne-eqb, eqb-true, eqb-false, lt-ltb, le-ltb, le-leb, lt-leb, ltb-true, ltb-false}
 use Rattle.tables.specs.Order.{nat-order}
-use Rattle.tables.specs.Table.{get, join, Normal, Proper, has, find, find-has, find-all, isSome, pick, normal-join, get-join}
+use Rattle.tables.specs.Table.{get, join, Normal, Proper, has, find, find-has, find-all, isSome, pick, pick-all, normal-join, get-join}
 use Rattle.tables.specs.Zip.{zip, by-lt}
 use Rattle.tables.specs.Walk.{Sub, walked, walked-join, length-walked}
 use Rattle.dots.specs.declared.Dot.{Dot}
 use Rattle.dots.specs.Dot.{dots, clocks, dot?, counterOf, actorOf}
 use Rattle.dots.specs.Clock.{Clock, count, merged}
-use Rattle.replica.specs.Truth.{lives}
+use Rattle.replica.specs.OneDot.{lives}
 use Rattle.replica.specs.Replica.{Entry, Replica, entries, entry, holds, seen, killed}
-use Rattle.replica.specs.Rules.{merge}
-use Rattle.replica.specs.ByDots.{live, liveAt, byDots, Fine}
+use Rattle.replica.specs.Rules.{stay, merge}
+use Rattle.replica.specs.WellFormed.{Fine}
+use Rattle.replica.specs.Merged.{live}
+use Rattle.replica.specs.ByDots.{liveAt, byDots, literal}
 use Rattle.replica.specs.Kills.{killsOf, killed-number}
-use Rattle.replica.specs.Laws.{pick-all}
-use Rattle.replica.specs.Literal.{literal}
 
 -- up to which counter a replica has seen the actor's dots, or has a waiting remove that takes them from the member
 unfoldable pub lineOf : Replica → ℕ → ℕ → ℕ
@@ -125,7 +125,7 @@ side A h m a = record {
         (λ k. absurd (h .free m a n (rw (eq-eqb (count (entry A m) a) (suc n) e) tt) (rw (killed-number A m a n, le-leb (suc n) (killsOf (A .waiting) m a) k) tt)))
 
 pub keep-live : (A B : Replica) → Fine A → Fine B → (m a : ℕ) → keepOf (lineOf A m a) (lineOf B m a) (count (entry A m) a) (count (entry B m) a) ≡ liveAt A B m a
-unfolding lineOf liveAt live holds seen
+unfolding lineOf liveAt live stay holds seen
 keep-live A B h g m a =
     keep-lives (count (entry A m) a) (count (entry B m) a) (count (A .clock) a) (count (B .clock) a) (killsOf (A .waiting) m a) (killsOf (B .waiting) m a) (killed A m a) (killed B m a) (side A h m a) (side B g m a)
 

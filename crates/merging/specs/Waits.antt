@@ -10,8 +10,8 @@ use Rattle.tables.specs.Zip.{zip, turnOf, left-after, right-after, turn-row, As
 use Rattle.dots.specs.Clock.{Clock, covers, merged, cmpClock}
 use Rattle.replica.specs.Replica.{Wait, Replica, waits, memberSets, wait?}
 use Rattle.replica.specs.Rules.{unite, merge}
-use Rattle.replica.specs.ByDots.{byDots, Fine}
-use Rattle.replica.specs.Literal.{literal}
+use Rattle.replica.specs.WellFormed.{Fine}
+use Rattle.replica.specs.ByDots.{byDots, literal}
 
 unfoldable pub keptWaits : Clock → List Wait → List Wait → List Wait
 keptWaits v xs ys = zip waits (λ c x y. pick (covers v c) none (unite x y)) xs ys

@@ -18,8 +18,7 @@ use Rattle.dots.specs.Clock.{Clock, count, normal, covers, merged, applied}
 use Rattle.dots.specs.ClockLaws.{normal-from, normal-empty, merged-count, merged-normal}
 use Rattle.replica.specs.Replica.{Entry, Replica, entries, clockOf, entry, waitAt, holds, seen, killed}
 use Rattle.replica.specs.Rules.{setOf, takes, settle, settled, add}
-use Rattle.replica.specs.Wf.{sound, wf-fine, fine-wf}
-use Rattle.replica.specs.ByDots.{Fine}
+use Rattle.replica.specs.WellFormed.{Fine, sound, sound-fine, fine-sound}
 use Rattle.replica.specs.Listed.{listed, set-listed}
 use Rattle.replica.specs.Settle.{Loose, settle-clock, settle-holds, settle-wait, settle-fine, settle-more, settle-settled}
 
@@ -161,11 +160,11 @@ added d ms A s new = rw new (record {
   wait-is = λ c. rw (settle-clock (taken d ms A)) (settle-wait (taken d ms A) l c);
   killed-kept = λ m a n t. settle-more (taken d ms A) l m a n (subst T (sym (taken-killed d ms A m a n)) t);
   is-settled = settle-settled (taken d ms A);
-  is-sound = fine-wf (settle (taken d ms A)) (settle-fine (taken d ms A) l);
+  is-sound = fine-sound (settle (taken d ms A)) (settle-fine (taken d ms A) l);
 })
   where
     h : Fine A
-    h = wf-fine A s
+    h = sound-fine A s
 
     l : Loose (taken d ms A)
     l = taken-loose d ms A h new

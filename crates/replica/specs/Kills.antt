@@ -10,9 +10,9 @@ use Rattle.tables.specs.Table.{get, pick, any, every, All}
 use Rattle.dots.specs.declared.Dot.{Dot}
 use Rattle.dots.specs.Dot.{actorOf}
 use Rattle.dots.specs.Clock.{Clock, count}
+use Rattle.dots.specs.ClockLaws.{leb-max}
 use Rattle.replica.specs.Replica.{Entry, Wait, Replica, memberSets, kills, killed}
-use Rattle.replica.specs.Laws.{leb-max}
-use Rattle.replica.specs.Wf.{spared}
+use Rattle.replica.specs.WellFormed.{spared}
 
 -- the largest counter of the actor among the waiting removes that name the member; 0 where none does
 unfoldable pub killsOf : List Wait → ℕ → ℕ → ℕ

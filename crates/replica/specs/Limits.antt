@@ -7,7 +7,7 @@ use lib.ListN.{length}
 use Rattle.tables.specs.Table.{any, every}
 use Rattle.tables.specs.Refusal.{Refusal, _if_, firstOf}
 use Rattle.replica.specs.Replica.{Wait, Replica}
-use Rattle.replica.specs.Wf.{sound}
+use Rattle.replica.specs.WellFormed.{sound}
 
 pub record Limits : Type 0 where
   pub actors : ℕ

@@ -14,11 +14,9 @@ use Rattle.dots.specs.Clock.{Clock, count, normal, covers, cmpClock, clock-orde
 use Rattle.dots.specs.ClockLaws.{normal-from, normal-to, normal-empty}
 use Rattle.replica.specs.Replica.{Wait, Replica, entries, waits, memberSets, membersOf, entry, waitAt, holds, kills, killed}
 use Rattle.replica.specs.Rules.{setOf, unite, joinWaits, removeFrom, remove}
-use Rattle.replica.specs.ByDots.{Fine}
-use Rattle.replica.specs.Wf.{sound, wf-fine, fine-wf}
-use Rattle.replica.specs.Laws.{late-law, same}
-use Rattle.replica.specs.Literal.{Sound, remove-sound, remove-dot}
-use Rattle.replica.specs.Waits.{one-get, one-normal, unite-none, joined-get, joined-normal, joined-kills}
+use Rattle.replica.specs.WellFormed.{Fine, sound, sound-fine, fine-sound, fine-ext}
+use Rattle.replica.specs.Removes.{FineEntries, fine-remove, remove-dot}
+use Rattle.replica.specs.Waits.{unite-good, one-get, one-normal, unite-none, joined-get, joined-normal, joined-kills}
 use Rattle.replica.specs.Listed.{listed, set-listed, set-normal}
 use Rattle.replica.specs.Settle.{fewer-dots}
 
@@ -67,8 +65,8 @@ remove-fine c ms A k h = record {
   free = λ m a n t d. free m a n (subst T (remove-holds c ms A h m a n) t) (subst T (remove-killed c ms A h m a (suc n)) d);
 }
   where
-    s : Sound (removeFrom (this c ms) (A .entries))
-    s = remove-sound (this c ms) (A .entries) (record { rows = h .entries-ok; each = h .each })
+    s : FineEntries (removeFrom (this c ms) (A .entries))
+    s = fine-remove (this c ms) (A .entries) (record { rows = h .entries-ok; each = h .each })
 
     waiting-ok : (b : Bool) → Normal waits (pick b (A .waiting) (joinWaits (A .waiting) (this c ms ∷ [])))
     waiting-ok true = h .waiting-ok
@@ -93,7 +91,7 @@ remove-fine c ms A k h = record {
 
     late : (j : Clock) (ns : List ℕ) (b : Bool) → covers (A .clock) c ≡ b → pick b (waitAt A j) (unite (waitAt A j) (get waits (this c ms ∷ []) j)) ≡ some ns → Normal clocks j × (j ≢ []) × Normal memberSets ns
     late j ns true e f = h .late j ns f
-    late j ns false e f = late-law j (waitAt A j) (get waits (this c ms ∷ []) j) (h .late j) (own e j) ns f
+    late j ns false e f = unite-good j (waitAt A j) (get waits (this c ms ∷ []) j) (h .late j) (own e j) ns f
 
     free : (m a n : ℕ) → T (holds A m a (suc n) && not (listed ms m && leb (suc n) (count c a))) → T (killed A m a (suc n) || not (covers (A .clock) c) && (listed ms m && leb (suc n) (count c a))) → ⊥
     free m a n t d =
@@ -124,11 +122,11 @@ removed c ms A k s = record {
   wait-here = λ e. remove-wait c ms A c ∙ ap₂ (λ (b : Bool) (o : Option (List ℕ)). pick b (waitAt A c) (unite (waitAt A c) o)) e (one-get (this c ms));
   wait-other = λ j ne. remove-wait c ms A j ∙ other j (covers (A .clock) c) (cmpClock j c) refl ne;
   killed-is = remove-killed c ms A h;
-  is-sound = fine-wf (remove c ms A) (remove-fine c ms A (normal-from c k) h);
+  is-sound = fine-sound (remove c ms A) (remove-fine c ms A (normal-from c k) h);
 }
   where
     h : Fine A
-    h = wf-fine A s
+    h = sound-fine A s
 
     other : (j : Clock) (b : Bool) (o : Ordering) → cmpClock j c ≡ o → (j ≡ c → ⊥) → pick b (waitAt A j) (unite (waitAt A j) (membersOf (hit o (this c ms) none))) ≡ waitAt A j
     other j true o u ne = refl
@@ -138,12 +136,12 @@ removed c ms A k s = record {
 
 -- a remove by {} changes nothing
 pub remove-empty : (ms : List ℕ) (A : Replica) → T (sound A) → remove [] ms A ≡ A
-remove-empty ms A s = same (remove [] ms A) A (remove-fine [] ms A normal-empty h) h (λ a. ap (λ (v : Clock). count v a) (r .clock-is))
+remove-empty ms A s = fine-ext (remove [] ms A) A (remove-fine [] ms A normal-empty h) h (λ a. ap (λ (v : Clock). count v a) (r .clock-is))
     (λ m a n. r .holds-is m a n ∙ go (holds A m a (suc n)) (listed ms m) (leb (suc n) 0) (leb·suc-zero n))
     (λ c. ap (λ (ws : List Wait). get waits ws c) (r .wait-seen (no-dots (A .clock) [] refl)))
   where
     h : Fine A
-    h = wf-fine A s
+    h = sound-fine A s
 
     r : Removed [] ms A (remove [] ms A)
     r = removed [] ms A (normal-to [] normal-empty) s

@@ -16,10 +16,8 @@ use Rattle.dots.specs.Clock.{Clock, count, filled, resetBy, cmpClock, clock-ord
 use Rattle.dots.specs.ClockLaws.{reset-normal, reset-count, reset-dot}
 use Rattle.replica.specs.Replica.{Wait, Replica, entry?, entries, waits, memberSets, membersOf, entry, waitAt, names, holds, kills, killed}
 use Rattle.replica.specs.Rules.{rewait, resetWaits, reset}
-use Rattle.replica.specs.ByDots.{Fine}
-use Rattle.replica.specs.Wf.{sound, wf-fine, fine-wf}
-use Rattle.replica.specs.Laws.{names-unite, late-law}
-use Rattle.replica.specs.Waits.{one-normal, there-unite, joined-get, joined-normal, joined-kills}
+use Rattle.replica.specs.WellFormed.{Fine, sound, sound-fine, fine-sound}
+use Rattle.replica.specs.Waits.{names-unite, unite-good, one-normal, there-unite, joined-get, joined-normal, joined-kills}
 
 -- ---- entries
 
@@ -160,7 +158,7 @@ resets-late c (w ∷ ws) h k ms e = go (resetBy c (w .clock)) refl (resets-late 
         → get waits (rewait x (w .members) (resetWaits c ws)) k ≡ some ms → Normal clocks k × (k ≢ []) × Normal memberSets ms
     go [] q l e = l ms e
     go (d ∷ x) q l e =
-        late-law k (get waits (this d x (w .members) ∷ []) k) (get waits (resetWaits c ws) k) (λ ns f. own d x q ns (cmpClock k (d ∷ x)) refl f) l ms
+        unite-good k (get waits (this d x (w .members) ∷ []) k) (get waits (resetWaits c ws) k) (λ ns f. own d x q ns (cmpClock k (d ∷ x)) refl f) l ms
         (sym (joined-get (this d x (w .members) ∷ []) (resetWaits c ws) k) ∙ e)
 
 reset-holds : (c : Clock) (A : Replica) → Fine A → (m a n : ℕ) → holds (reset c A) m a (suc n) ≡ (holds A m a (suc n) && not (leb (suc n) (count c a)))
@@ -214,8 +212,8 @@ was-reset c A s = record {
   wait-there = resets-there c (A .waiting);
   wait-names = resets-names c (A .waiting);
   killed-is = reset-killed c A h;
-  is-sound = fine-wf (reset c A) (reset-fine c A h);
+  is-sound = fine-sound (reset c A) (reset-fine c A h);
 }
   where
     h : Fine A
-    h = wf-fine A s
+    h = sound-fine A s

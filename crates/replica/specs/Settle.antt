@@ -15,9 +15,9 @@ use Rattle.dots.specs.Clock.{Clock, count, covers}
 use Rattle.dots.specs.ClockLaws.{covers-le}
 use Rattle.replica.specs.Replica.{Wait, Replica, entries, waits, memberSets, wait?, entry, waitAt, names, holds, seen, killed}
 use Rattle.replica.specs.Rules.{removesFrom, uncovered, settle, settled}
-use Rattle.replica.specs.ByDots.{Fine}
-use Rattle.replica.specs.Laws.{kept-names, kept-some, killed-from, killed-to}
-use Rattle.replica.specs.Literal.{Sound, removes-dot, removes-sound}
+use Rattle.replica.specs.WellFormed.{Fine}
+use Rattle.replica.specs.Waits.{kept-names, kept-some, killed-from, killed-to}
+use Rattle.replica.specs.Removes.{FineEntries, removes-dot, fine-removes}
 
 -- ---- the waiting removes whose clock V does not cover
 
@@ -112,8 +112,8 @@ settle-fine A h = record {
   free = λ m a n t k. T-not (killed A m a (suc n)) (and-r (holds A m a (suc n)) (not (killed A m a (suc n))) (subst T (settle-holds A h m a n) t)) (settle-fewer A h m a (suc n) k);
 }
   where
-    s : Sound (removesFrom (A .waiting) (A .entries))
-    s = removes-sound (A .waiting) (A .entries) (record { rows = h .entries-ok; each = h .each })
+    s : FineEntries (removesFrom (A .waiting) (A .entries))
+    s = fine-removes (A .waiting) (A .entries) (record { rows = h .entries-ok; each = h .each })
 
     within : (m a : ℕ) → count (entry (settle A) m) a ≤ count (A .clock) a
     within m a = le-trans (fewer-dots (count (entry A m) a) (count (entry (settle A) m) a) (left m a)) (h .within m a)

@@ -18,13 +18,13 @@ use Rattle.dots.specs.ClockLaws.{covers-le}
 use Rattle.replica.specs.Replica.{Wait, Replica, memberSets, holds, seen, kills, killed}
 use Rattle.replica.specs.Rules.{setOf, unite, joinWaits, removeFrom, removesFrom, settle, add, remove, stay, stayAt, staying, merge, rewait, resetWaits, reset}
 use Rattle.replica.specs.History.{Add, Remove, apply, Event, Apply, MergeWith, MergeInto, Reset, step, run, judged}
-use Rattle.replica.specs.Wf.{sound}
+use Rattle.replica.specs.WellFormed.{sound}
 use Rattle.replica.specs.Listed.{listed}
 use Rattle.replica.specs.AddLaws.{above, add-seen, added}
 use Rattle.replica.specs.RemoveLaws.{Removed, removed}
 use Rattle.replica.specs.ResetLaws.{was-reset}
-use Rattle.replica.specs.MergeLaws.{was-merged}
-use Rattle.replica.specs.Main.{commutes}
+use Rattle.replica.specs.Merged.{live}
+use Rattle.replica.specs.MergeLaws.{merge-says, merge-sound, merge-killed, merge-commutes}
 
 -- the event's arguments are well-formed: a remove's clock is normalised, and the other replica of a merge well-formed, limits aside
 unfoldable pub fair : Event → Bool
@@ -56,8 +56,8 @@ step-sound (Apply (Add d ms)) A f s = go (covers (A .clock) (d ∷ [])) refl
     go true e = rw (add-seen d ms A e) s
     go false e = (added d ms A s e) .is-sound
 step-sound (Apply (Remove c ms)) A f s = (removed c ms A f s) .is-sound
-step-sound (MergeWith B) A f s = (was-merged A B s f) .is-sound
-step-sound (MergeInto B) A f s = (was-merged B A f s) .is-sound
+step-sound (MergeWith B) A f s = merge-sound A B s f
+step-sound (MergeInto B) A f s = merge-sound B A f s
 step-sound (Reset c) A f s = (was-reset c A s) .is-sound
 
 -- ---- and what is gone stays gone
@@ -125,16 +125,16 @@ module _ (A : Replica) (s : T (sound A)) (m a n : ℕ) (g : Gone A m a (suc n)) 
       }
 
   merge-gone : (B : Replica) → T (sound B) → Gone (merge A B) m a (suc n)
-  unfolding stay
+  unfolding stay live
   merge-gone B t =
-      let r = was-merged A B s t in
+      let r = merge-says A B s t in
       let v = r .clock-is a in
       let hA = holds A m a (suc n) in let hB = holds B m a (suc n) in let sA = seen A a (suc n) in let sB = seen B a (suc n) in
       let kA = killed A m a (suc n) in let kB = killed B m a (suc n) in
       record {
         absent = r .holds-is m a n ∙ is-false (stay A B m a (suc n) && not (kA || kB))
             (mp (not hA && (sA || kA)) (not (stay A B m a (suc n) && not (kA || kB))) (merge-absent hA hB sA sB kA kB) (and-i (not hA) (sA || kA) (rw (g .absent) tt) (g .known)));
-        known = still (merge A B) (omega arith) (λ k. r .killed-kept m a (suc n) (or-l kA kB k));
+        known = still (merge A B) (omega arith) (λ k. merge-killed A B s t m a (suc n) (or-l kA kB k));
       }
 
   reset-gone : (c : Clock) → leb (suc n) (count c a) ≡ false → Gone (reset c A) m a (suc n)
@@ -159,7 +159,7 @@ module _ (A : Replica) (s : T (sound A)) (m a n : ℕ) (g : Gone A m a (suc n)) 
   step-gone (Apply (Add d ms)) f z = add-gone d ms
   step-gone (Apply (Remove c ms)) f z = remove-gone c ms f
   step-gone (MergeWith B) f z = merge-gone B f
-  step-gone (MergeInto B) f z = rw (commutes B A f s) (merge-gone B f)
+  step-gone (MergeInto B) f z = rw (merge-commutes B A f s) (merge-gone B f)
   step-gone (Reset c) f z = reset-gone c z
 
 neither : (a b : Bool) → (a || b) ≡ false → (a ≡ false) × (b ≡ false)

@@ -140,6 +140,11 @@ pub pick-both : {A : Type 0} (b : Bool) (x : A) → pick b x x ≡ x
 pick-both true x = refl
 pick-both false x = refl
 
+pub pick-all : {A : Type 0} (b c : Bool) {x y z : A} → x ≡ z → y ≡ z → pick b x (pick c y z) ≡ z
+pick-all true c p q = p
+pick-all false true p q = q
+pick-all false false p q = refl
+
 some≢none : {A : Type 0} {B : Type 0} (a : A) → some a ≡ none → B
 some≢none a e = absurd (false≢true (sym (ap isSome e)))
 
