@@ -10,3 +10,5 @@ pub mod Fits
 pub mod Parts
 pub mod Round
 pub mod Kit
+pub mod Formed
+pub mod Checks

@@ -101,7 +101,7 @@ pub record Readable (A : Width) (s : List ℕ) : Type 0 where
   pub waits-start-ok : waitsStart s ≡ endAfter (rowEndIn A) s (entriesStart s) (entriesCount s)
   pub end-ok : length s ≡ endAfter (waitEndIn A) s (waitsStart s) (waitsCount s)
 
-same : (m n : ℕ) → m ≡ n → T (eqb m n)
+pub same : (m n : ℕ) → m ≡ n → T (eqb m n)
 same m n e = rw (eq-eqb m n e) tt
 
 pub readable-from : (A : Width) (s : List ℕ) → T (readableIn A s) → Readable A s
