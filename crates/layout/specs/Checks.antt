@@ -15,7 +15,7 @@ use Rattle.dots.specs.Clock.{Clock, covers, normal, filled, cmpClock}
 use Rattle.dots.specs.ClockLaws.{normal-from, normal-to}
 use Rattle.dots.specs.Rising.{rising, rising-is}
 use Rattle.replica.specs.Replica.{Entry, Wait, Replica}
-use Rattle.replica.specs.Wf.{spared}
+use Rattle.replica.specs.WellFormed.{spared}
 use Rattle.replica.specs.Limits.{Limits, wellFormed}
 use Rattle.layout.specs.Fields.{u32At}
 use Rattle.layout.specs.Lists.{listAt, endAfter}

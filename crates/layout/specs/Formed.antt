@@ -17,7 +17,7 @@ use Rattle.dots.specs.Clock.{Clock, count, covers, glb, normal, filled, cmpCloc
 use Rattle.dots.specs.ClockLaws.{normal-from, normal-to, clock-ext, covers-le}
 use Rattle.dots.specs.Ruled.{glb-normal, glb-count, glb-length}
 use Rattle.replica.specs.Replica.{Entry, Wait, Replica}
-use Rattle.replica.specs.Wf.{spared, entryTests, waitTests, tests, sound}
+use Rattle.replica.specs.WellFormed.{spared, entryTests, waitTests, tests, sound}
 use Rattle.replica.specs.Limits.{Limits, limitsOf, broken, wellFormed}
 
 -- a clock that V covers is the smaller of the two, and has no more actors
