@@ -12,3 +12,5 @@ pub mod Round
 pub mod Kit
 pub mod Formed
 pub mod Checks
+pub mod Longest
+pub mod Main

@@ -142,6 +142,15 @@ readable-to A s h = alls-to _ (
 
 -- ---- the whole
 
+module _ (A : Width) where
+  length-head : (r : Replica) → length (contentsOf A r) ≡ 24
+  unfolding contentsOf
+  length-head r = length-contents (lengthOf A r) (rowsFrom A r) (length (r .entries)) (waitsFrom A r) (length (r .waiting))
+
+  pub length-encode : (r : Replica) → length (encodeIn A r) ≡ lengthOf A r
+  unfolding encodeIn contentsOf lengthOf waitsFrom rowsFrom
+  length-encode r = simp (length-append, length-contents) (omega arith)
+
 module _ (A : Width) (W : Sound A) where
   abbrev vs : Replica → List ℕ
   vs r = encodeClockIn A (r .clock)
@@ -152,17 +161,9 @@ module _ (A : Width) (W : Sound A) where
   abbrev ws : Replica → List ℕ
   ws r = bytesOf (encodeWaitIn A) (r .waiting)
 
-  length-head : (r : Replica) → length (contentsOf A r) ≡ 24
-  unfolding contentsOf
-  length-head r = length-contents (lengthOf A r) (rowsFrom A r) (length (r .entries)) (waitsFrom A r) (length (r .waiting))
-
   bytes-head : (r : Replica) → Bytes (contentsOf A r)
   unfolding contentsOf
   bytes-head r = bytes-contents (lengthOf A r) (rowsFrom A r) (length (r .entries)) (waitsFrom A r) (length (r .waiting))
-
-  pub length-encode : (r : Replica) → length (encodeIn A r) ≡ lengthOf A r
-  unfolding encodeIn contentsOf lengthOf waitsFrom rowsFrom
-  length-encode r = simp (length-append, length-contents) (omega arith)
 
   pub bytes-encode : (r : Replica) → Bytes (encodeIn A r)
   unfolding encodeIn
@@ -207,7 +208,7 @@ module _ (A : Width) (W : Sound A) where
 
     -- bytes that can be read are the writing of what they say
     pub rewritten : Bytes s → encodeIn A (imageIn A s) ≡ s
-    rewritten b = holds-all s (encodeIn A (imageIn A s)) (stood b) (length-encode (imageIn A s) ∙ to-end)
+    rewritten b = holds-all s (encodeIn A (imageIn A s)) (stood b) (length-encode A (imageIn A s) ∙ to-end)
 
     -- and the numbers that they say fit
     pub fits-image : Bytes s → FitsIn A (imageIn A s)
@@ -264,13 +265,13 @@ module _ (A : Width) (W : Sound A) where
     readable-encode =
         let e = span-list (rowForm A) (faithful-row A W) (encodeIn A r) (entriesStart (encodeIn A r)) (entriesCount (encodeIn A r)) in
         let w = span-list (waitForm A) (faithful-wait A W) (encodeIn A r) (waitsStart (encodeIn A r)) (waitsCount (encodeIn A r)) in
-        let l = length-encode r in
+        let l = length-encode A r in
         record {
           long = omega arith;
           version-ok = says .version-is;
           zero-ok = says .zero-is;
-          total-ok = says .total-is ∙ sym (length-encode r);
+          total-ok = says .total-is ∙ sym (length-encode A r);
           start-ok = says .start-is ∙ sym (faithful-clock A W .span (encodeIn A r) 24 ∙ ap (λ (c : Clock). 24 + length (encodeClockIn A c)) clock-back);
           waits-start-ok = says .waits-start-is ∙ sym (e ∙ ap₂ (λ (p : ℕ) (l : List Entry). p + length (bytesOf (encodeRowIn A) l)) (says .start-is) entries-back);
-          end-ok = length-encode r ∙ sym (w ∙ ap₂ (λ (p : ℕ) (l : List Wait). p + length (bytesOf (encodeWaitIn A) l)) (says .waits-start-is) waiting-back);
+          end-ok = length-encode A r ∙ sym (w ∙ ap₂ (λ (p : ℕ) (l : List Wait). p + length (bytesOf (encodeWaitIn A) l)) (says .waits-start-is) waiting-back);
         }
