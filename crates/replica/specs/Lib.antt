@@ -9,6 +9,8 @@ pub mod Settle
 pub mod Merged
 pub mod ByDots
 pub mod Membership
+pub mod Judge
+pub mod Report
 pub mod MergeLaws
 pub mod Kills
 pub mod Listed

@@ -123,6 +123,18 @@ map-id {R} (r ∷ rs) = ap (λ (l : List R). r ∷ l) (map-id rs)
 pub every-map : {R : Type 0} (p q : R → Bool) (rs : List R) → ((r : R) → T (p r) → T (q r)) → T (every p rs) → T (every q rs)
 every-map p q rs f t = all-every q rs (all-map (λ r. T (p r)) (λ r. T (q r)) rs f (every-all p rs t))
 
+pub any-none : {R : Type 0} (p : R → Bool) (rs : List R) → any p rs ≡ false → All (λ r. p r ≡ false) rs
+any-none p [] e = tt
+any-none p (r ∷ rs) e = go (p r) refl e (any-none p rs)
+  where
+    go : (b : Bool) → p r ≡ b → (b || any p rs) ≡ false → (any p rs ≡ false → All (λ r. p r ≡ false) rs) → (p r ≡ false) × All (λ r. p r ≡ false) rs
+    go true u e f = absurd (false≢true (sym e))
+    go false u e f = (u, f e)
+
+pub none-any : {R : Type 0} (p : R → Bool) (rs : List R) → All (λ r. p r ≡ false) rs → any p rs ≡ false
+none-any p [] h = refl
+none-any p (r ∷ rs) h = rw (h .0) (none-any p rs (h .1))
+
 -- what `cons?` and `collect` keep
 pub all-cons? : {R : Type 0} (P : R → Type 0) (o : Option R) (rs : List R) → ((r : R) → o ≡ some r → P r) → All P rs → All P (cons? o rs)
 all-cons? P none rs h t = t
