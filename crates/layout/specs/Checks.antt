@@ -1,30 +1,31 @@
 -- The tests of one pass are the two stages: bytes pass exactly if they can be read and say a well-formed replica.
-use Prim.Native.Nat.{ℕ, zero, suc, _+_, _*_, _≤_, _<_, compare, Ordering·lt}
-use mathlib.Core.Path.{_≡_, refl, sym, ap, _∙_, subst}
-use mathlib.Core.Bool.{Bool, true, false, _&&_}
+use Prim.Native.Nat.{ℕ, zero, suc, _+_, _*_, _≤_, _<_, compare}
+use mathlib.Core.Path.{_≡_, sym}
+use mathlib.Core.Bool.{Bool, true, _&&_}
 use mathlib.Core.List.{List, [], _∷_, map}
 use native.Mathlib.Omega.{arith}
 use lib.Dec.{T, leb, ltb, eqb, leb→le, le→leb, ltb→lt, lt→ltb, eqb→eq}
 use lib.ListN.{length}
-use Rattle.tables.specs.Order.{nat-order, lt-nat, nat-lt}
+use Rattle.tables.specs.Order.{lt-nat, nat-lt}
 use Rattle.tables.specs.Truth.{and-l, and-r, and-i, bool-ext}
 use Rattle.tables.specs.Table.{Normal, Asc, Below, All, every, every-all, all-every, all-map, all-both}
-use Rattle.tables.specs.Ascending.{isLt, before, ascending}
+use Rattle.tables.specs.Ascending.{isLt, before, ascending, asc-from}
+use Rattle.tables.specs.Zip.{Rise}
 use Rattle.dots.specs.Dot.{clocks}
-use Rattle.dots.specs.Clock.{Clock, covers, normal, filled, cmpClock}
+use Rattle.dots.specs.Clock.{Clock, covers, filled, cmpClock, clock-order}
 use Rattle.dots.specs.ClockLaws.{normal-from, normal-to}
-use Rattle.dots.specs.Rising.{rising, rising-is}
-use Rattle.replica.specs.Replica.{Entry, Wait, Replica}
-use Rattle.replica.specs.WellFormed.{spared}
-use Rattle.replica.specs.Limits.{Limits, wellFormed}
+use Rattle.dots.specs.Rising.{rising, rising-is, true-from}
+use Rattle.replica.specs.Replica.{Entry, Wait, Replica, entryRows}
+use Rattle.replica.specs.WellFormed.{spared, sound, Fine, sound-fine}
+use Rattle.replica.specs.Limits.{Limits, full, broken, wellFormed}
 use Rattle.layout.specs.Fields.{u32At}
 use Rattle.layout.specs.Lists.{listAt, endAfter}
-use Rattle.layout.specs.Clock.{Width, dotIn, dotEndIn, clockIn, clockEndIn}
-use Rattle.layout.specs.Rows.{membersAt, memberEnd, rowIn, rowEndIn, waitIn, waitEndIn}
-use Rattle.layout.specs.Image.{version, zeroField, totalLength, entriesStart, entriesCount, waitsStart, waitsCount, readableIn, imageIn, goodIn}
-use Rattle.layout.specs.Good.{risingMembers, goodMembersIn, goodClockIn, goodRowsIn, goodWaitsIn, goodContentsIn, goodPartsIn, goodEntry, checksIn}
+use Rattle.layout.specs.Clock.{Width, narrow, dotIn, dotEndIn, clockIn, clockEndIn}
+use Rattle.layout.specs.Rows.{membersAt, memberEnd, rowIn, rowEndIn, rowsAt, waitIn, waitEndIn, waitsAt}
+use Rattle.layout.specs.Image.{version, zeroField, totalLength, entriesStart, entriesCount, waitsStart, waitsCount, readableIn, imageIn, imageOf, readable, goodIn, goodImage}
+use Rattle.layout.specs.Good.{risingMembers, goodMembersIn, goodClockIn, goodRowsIn, goodWaitsIn, goodContentsIn, goodPartsIn, goodEntry, checksIn, checks, goodMembers, goodClock, goodRows, goodWaits, goodParts}
 use Rattle.layout.specs.Form.{length-listAt, span-list}
-use Rattle.layout.specs.Parts.{Sound, clockForm, rowForm, waitForm, faithful-clock, faithful-row, faithful-wait}
+use Rattle.layout.specs.Parts.{Sound, sound-narrow, rowForm, waitForm, faithful-clock, faithful-row, faithful-wait}
 use Rattle.layout.specs.Round.{Readable, readable-from, readable-to, same}
 use Rattle.layout.specs.Formed.{Formed, EntryFine, WaitFine, formed-from, formed-to}
 
@@ -268,7 +269,7 @@ module _ (A : Width) (l : Limits) where
   -- ---- the whole
 
   -- the tests of one pass, fact by fact
-  record Passed (s : List ℕ) : Type 0 where
+  record Tested (s : List ℕ) : Type 0 where
     readable-ok : Readable A s
     few-members : entriesCount s ≤ l .members
     few-waiting : waitsCount s ≤ l .waiting
@@ -288,9 +289,9 @@ module _ (A : Width) (l : Limits) where
   abbrev endTest : List ℕ → Bool
   endTest s = eqb (endAfter (waitEndIn A) s (waitsStart s) (waitsCount s)) (length s)
 
-  passed-from : (s : List ℕ) → T (checksIn A l s) → Passed s
+  tested-from : (s : List ℕ) → T (checksIn A l s) → Tested s
   unfolding checksIn goodPartsIn goodContentsIn imageIn
-  passed-from s t =
+  tested-from s t =
       let h = each-from (goodPartsIn A l s ∷ []) (every (goodEntry (imageIn A s)) (imageIn A s .entries)) t in
       let p = each-from (partsTests s) (endTest s) (h .0) in
       let c = each-from (contentsTests s) (leb (waitsCount s) (l .waiting)) (p .0) in
@@ -312,9 +313,9 @@ module _ (A : Width) (l : Limits) where
         entries-ok = every-all (goodEntry (imageIn A s)) (imageIn A s .entries) (h .1);
       }
 
-  passed-to : Sound A → (s : List ℕ) → Passed s → T (checksIn A l s)
+  tested-to : Sound A → (s : List ℕ) → Tested s → T (checksIn A l s)
   unfolding checksIn goodPartsIn goodContentsIn imageIn
-  passed-to W s h =
+  tested-to W s h =
       let r = h .readable-ok in
       let e0 = faithful-clock A W .span s 24 in
       let e1 = span-list (rowForm A) (faithful-row A W) s (entriesStart s) (entriesCount s) in
@@ -374,9 +375,9 @@ module _ (A : Width) (l : Limits) where
     unfolding imageIn
     count-waits = length-listAt (waitIn A) (waitEndIn A) s (waitsStart s) (waitsCount s)
 
-    passed-formed : Passed s → Formed l (imageIn A s)
+    tested-formed : Tested s → Formed l (imageIn A s)
     unfolding imageIn ascending
-    passed-formed h = record {
+    tested-formed h = record {
       clock-ok = h .clock-ok .normal-ok;
       actors-ok = h .clock-ok .few-ok;
       rises-ok = h .rows-ok .rises-ok .asc;
@@ -387,9 +388,9 @@ module _ (A : Width) (l : Limits) where
       waits-ok = h .waits-ok .waits-ok;
     }
 
-    formed-passed : Readable A s → Formed l (imageIn A s) → Passed s
+    formed-tested : Readable A s → Formed l (imageIn A s) → Tested s
     unfolding imageIn ascending
-    formed-passed r f = record {
+    formed-tested r f = record {
       readable-ok = r;
       few-members = rw count-rows at (f .members-ok);
       few-waiting = rw count-waits at (f .waiting-ok);
@@ -405,16 +406,60 @@ module _ (A : Width) (l : Limits) where
       entries-ok = all-map (EntryFine l (imageIn A s)) (λ e. T (goodEntry (imageIn A s) e)) (imageIn A s .entries) (entry-good (imageIn A s)) (f .entries-ok);
     }
 
-  good-passed : (s : List ℕ) → T (goodIn A l s) → Passed s
+  good-tested : (s : List ℕ) → T (goodIn A l s) → Tested s
   unfolding goodIn
-  good-passed s t =
+  good-tested s t =
       let h = each-from (readableIn A s ∷ []) (wellFormed l (imageIn A s)) t in
-      formed-passed s (readable-from A s (h .0)) (formed-from l (imageIn A s) (h .1))
+      formed-tested s (readable-from A s (h .0)) (formed-from l (imageIn A s) (h .1))
 
-  passed-good : (s : List ℕ) → Passed s → T (goodIn A l s)
+  tested-good : (s : List ℕ) → Tested s → T (goodIn A l s)
   unfolding goodIn
-  passed-good s h = and-i (readableIn A s) (wellFormed l (imageIn A s)) (readable-to A s (h .readable-ok)) (formed-to l (imageIn A s) (passed-formed s h))
+  tested-good s h = and-i (readableIn A s) (wellFormed l (imageIn A s)) (readable-to A s (h .readable-ok)) (formed-to l (imageIn A s) (tested-formed s h))
 
   -- the tests of one pass are the two stages
   pub checks-is : Sound A → (s : List ℕ) → goodIn A l s ≡ checksIn A l s
-  checks-is W s = bool-ext (goodIn A l s) (checksIn A l s) (λ t. passed-to W s (good-passed s t)) (λ t. passed-good s (passed-from s t))
+  checks-is W s = bool-ext (goodIn A l s) (checksIn A l s) (λ t. tested-to W s (good-tested s t)) (λ t. tested-good s (tested-from s t))
+
+-- ---- rows that passed are sorted, with 12 bytes per dot and the limits of document 01
+
+pub rows-rise : (s : List ℕ) (p low n : ℕ) → goodRows s p low n ≡ true → Rise entryRows (rowsAt s p n)
+rows-rise s p low n e = rows-from narrow full s p low n (rw e tt) .rises-ok .asc
+
+pub waits-rise : (s : List ℕ) (p : ℕ) (last : Clock) (n : ℕ) → goodWaits s p last n ≡ true → Asc cmpClock (last ∷ map (λ w. w .clock) (waitsAt s p n))
+waits-rise s p last n e = asc-from cmpClock clock-order (last ∷ map (λ w. w .clock) (waitsAt s p n)) (waits-from narrow full s p last n (rw e tt) .later-ok)
+
+pub members-rise : (s : List ℕ) (q : ℕ) → goodMembers s q ≡ true → Asc compare (membersAt s (q + 4) (u32At s q))
+members-rise s q e = named-from 32 s q (rw e tt) .rises-ok
+
+-- ---- what passed, part by part
+
+pub record Passed (s : List ℕ) : Type 0 where
+  pub readable-ok : Readable narrow s
+  pub few-members : entriesCount s ≤ 64
+  pub few-waiting : waitsCount s ≤ 16
+  pub clock-good : goodClock s 24 ≡ true
+  pub rows-good : goodRows s (entriesStart s) 0 (entriesCount s) ≡ true
+  pub waits-good : goodWaits s (waitsStart s) [] (waitsCount s) ≡ true
+  pub formed : Formed full (imageOf s)
+  pub fine : Fine (imageOf s)
+
+pub passed : (s : List ℕ) → goodImage s ≡ true → Passed s
+unfolding goodIn checksIn goodPartsIn goodContentsIn wellFormed
+passed s e =
+    let t : T (goodImage s) = rw e tt in
+    let g = each-from (readable s ∷ []) (wellFormed full (imageOf s)) t in
+    let w = each-from (sound (imageOf s) ∷ []) (eqb (broken full (imageOf s)) 0 && every (λ w. leb (length (w .clock)) 16) (imageOf s .waiting)) (g .1) in
+    let k : T (checks s) = rw (← (checks-is narrow full sound-narrow s)) t in
+    let h = each-from (goodParts s ∷ []) (every (goodEntry (imageOf s)) (imageOf s .entries)) k in
+    let p = each-from (partsTests narrow full s) (endTest narrow full s) (h .0) in
+    let c = each-from (contentsTests narrow full s) (leb (waitsCount s) 16) (p .0) in
+    record {
+      readable-ok = readable-from narrow s (g .0);
+      few-members = leb→le (entriesCount s) 64 (c .1 .1 .1 .1 .0);
+      few-waiting = leb→le (waitsCount s) 16 (c .1 .1 .1 .1 .1);
+      clock-good = true-from (goodClock s 24) (p .1 .0);
+      rows-good = true-from (goodRows s (entriesStart s) 0 (entriesCount s)) (p .1 .1 .1 .0);
+      waits-good = true-from (goodWaits s (waitsStart s) [] (waitsCount s)) (p .1 .1 .1 .1 .1 .0);
+      formed = formed-from full (imageOf s) (g .1);
+      fine = sound-fine (imageOf s) (w .0);
+    }

@@ -1,5 +1,5 @@
 -- The same tests in the order of one pass over the bytes, as the check's loops make them.
-use mathlib.Core.Bool.{Bool, true, false, _&&_}
+use mathlib.Core.Bool.{Bool, true, _&&_}
 use mathlib.Core.List.{List, [], _∷_}
 use Prim.Native.Nat.{ℕ, suc, zero, _+_, _*_}
 use lib.Dec.{leb, ltb, eqb}
@@ -8,7 +8,7 @@ use Rattle.tables.specs.Table.{every}
 use Rattle.tables.specs.Ascending.{isLt}
 use Rattle.dots.specs.Clock.{Clock, covers, cmpClock}
 use Rattle.dots.specs.Rising.{rising}
-use Rattle.replica.specs.Replica.{Entry, Wait, Replica}
+use Rattle.replica.specs.Replica.{Entry, Replica}
 use Rattle.replica.specs.Limits.{Limits, full}
 use Rattle.replica.specs.WellFormed.{spared}
 use Rattle.layout.specs.Fields.{u32At}

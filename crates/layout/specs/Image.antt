@@ -7,7 +7,7 @@ use Prim.Native.Nat.{ℕ, _+_}
 use lib.Dec.{leb, eqb}
 use lib.ListN.{length}
 use Rattle.tables.specs.Table.{pick, alls}
-use Rattle.replica.specs.Replica.{Entry, Wait, Replica}
+use Rattle.replica.specs.Replica.{Replica}
 use Rattle.replica.specs.Limits.{Limits, full, wellFormed}
 use Rattle.layout.specs.Fields.{u16At, u32At, le16, le32}
 use Rattle.layout.specs.Lists.{listAt, endAfter, bytesOf}

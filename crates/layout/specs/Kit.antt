@@ -1,30 +1,28 @@
 -- What code goes by: one turn along a list in bytes, from either end; the thing at a place; and what each test of a pass says.
-use mathlib.Core.Path.{_≡_, refl, sym, ap, _∙_}
-use mathlib.Core.Bool.{Bool, true, false, _&&_}
+use mathlib.Core.Path.{_≡_, refl, sym, ap}
+use mathlib.Core.Bool.{true, _&&_}
 use mathlib.Core.List.{List, [], _∷_, _++_, append-assoc}
-use Prim.Native.Nat.{ℕ, suc, zero, _+_, _*_, _^_, _≤_, _<_}
+use Prim.Native.Nat.{ℕ, suc, zero, _+_, _*_, _≤_, _<_}
 use native.Mathlib.Omega.{arith}
 use native.Mathlib.Nat.{mul-zero, mul-suc}
 use native.Mathlib.Numerals.{add-one}
 use lib.Dec.{leb, ltb}
 use lib.ListN.{length, getD, take, drop, length-append}
 use lib.Seq.{take-at}
-use borrow.Author.Tests.{leb-true, le-leb, ltb-true, lt-ltb}
+use borrow.Author.Tests.{leb-true, le-leb, ltb-true}
 use Rattle.tables.specs.Table.{Normal}
 use Rattle.tables.specs.Ascending.{isLt}
 use Rattle.dots.specs.Dot.{clocks}
 use Rattle.dots.specs.Clock.{Clock, cmpClock}
 use Rattle.dots.specs.Rising.{rising, both-left, both-right, rising-normal}
 use Rattle.replica.specs.Replica.{Entry, Wait}
-use Rattle.replica.specs.Limits.{Limits, full}
-use Rattle.layout.specs.Fields.{Bytes, u32At, le32, length-le32, length-le64}
+use Rattle.layout.specs.Fields.{u32At, le32, length-le32, length-le64}
 use Rattle.layout.specs.Lists.{listAt, startsAt, endAfter, bytesOf}
-use Rattle.layout.specs.Clock.{Width, narrow, dotIn, dotsAt, clockIn, clockEndIn, clockAt, clockEnd, encodeClockIn, encodeClock, encodeDots, encodeDot, encodeDotIn}
-use Rattle.layout.specs.Rows.{rowIn, rowEndIn, rowAt, rowEnd, rowsAt, placesAt, rowsEnd, encodeRowIn, encodeRow, waitIn, waitEndIn, waitEnd, waitAtPlace, waitsAt, waitPlacesAt, waitsEnd, encodeWaitIn, encodeWait, membersAt, encodeMembers}
+use Rattle.layout.specs.Clock.{narrow, dotIn, clockIn, clockEndIn, clockAt, clockEnd, encodeClockIn, encodeClock, encodeDots, encodeDot, encodeDotIn}
+use Rattle.layout.specs.Rows.{rowEndIn, rowAt, rowEnd, rowsAt, placesAt, encodeRowIn, encodeRow, waitEndIn, waitEnd, waitAtPlace, waitsAt, waitPlacesAt, encodeWaitIn, encodeWait, membersAt, encodeMembers}
 use Rattle.layout.specs.Good.{risingMembers, goodMembersIn, goodMembers, goodClockIn, goodClock, goodRowsIn, goodRows, goodWaitsIn, goodWaits}
 use Rattle.layout.specs.Held.{Holds}
-use Rattle.layout.specs.Form.{length-listAt, span-list}
-use Rattle.layout.specs.Parts.{sound-narrow, dotForm, clockForm, rowForm, waitForm, faithful-dot, faithful-clock, faithful-row, faithful-wait}
+use Rattle.layout.specs.Form.{length-listAt}
 
 -- ---- one turn from the front
 

@@ -9,8 +9,7 @@ use Rattle.tables.specs.Table.{All, all-map}
 use Rattle.replica.specs.Replica.{Entry, Wait, Replica}
 use Rattle.replica.specs.Limits.{Limits, full}
 use Rattle.layout.specs.Lists.{bytesOf}
-use Rattle.layout.specs.Clock.{narrow, encodeClock}
-use Rattle.layout.specs.Rows.{encodeRow, encodeRows, encodeWait, encodeWaits}
+use Rattle.layout.specs.Rows.{encodeRow, encodeWait}
 use Rattle.layout.specs.Image.{rowsFrom, waitsFrom, lengthOf, encode}
 use Rattle.layout.specs.Round.{length-encode}
 use Rattle.layout.specs.Kit.{length-encodeClock, length-encodeRow, length-encodeWait}

@@ -1,29 +1,27 @@
 -- The theorems on the replica image of document 01: the round trip both ways, what is accepted, and the lengths.
-use Prim.Native.Nat.{ℕ, _+_, _≤_, _<_, _^_}
+use Prim.Native.Nat.{ℕ, _≤_, _<_, _^_}
 use mathlib.Core.Path.{_≡_, refl, sym, ap, _∙_}
 use mathlib.Core.Logic.{_↔_}
-use mathlib.Core.Bool.{Bool, true, false, _&&_}
-use mathlib.Core.Option.{Option, none, some}
+use mathlib.Core.Option.{some}
 use mathlib.Core.List.{List, [], _∷_}
 use native.Mathlib.Omega.{arith}
 use lib.Dec.{T}
 use lib.ListN.{length}
-use Rattle.tables.specs.Table.{pick}
 use Rattle.tables.specs.Truth.{and-l, and-r, and-i}
 use Rattle.dots.specs.Dot.{dot}
 use Rattle.dots.specs.Rising.{true-from}
 use Rattle.replica.specs.Replica.{Replica}
-use Rattle.replica.specs.Limits.{Limits, full, wellFormed}
-use Rattle.layout.specs.Fields.{Bytes, u16At, u32At, u64At, le16, le32, le64}
+use Rattle.replica.specs.Limits.{full, wellFormed}
+use Rattle.layout.specs.Fields.{Bytes, le16, le32, le64}
 use Rattle.layout.specs.Lists.{bytesOf, endAfter}
-use Rattle.layout.specs.Clock.{narrow, dotIn, encodeDotIn, encodeClockIn, encodeClock}
-use Rattle.layout.specs.Rows.{rowIn, encodeRowIn, encodeWaitIn}
-use Rattle.layout.specs.Image.{contents, contentsOf, rowsFrom, waitsFrom, lengthOf, encodeIn, encode, readable, imageOf, goodIn, goodImage, decode, entriesStart, waitsStart, waitsCount}
+use Rattle.layout.specs.Clock.{narrow, encodeDotIn, encodeClockIn}
+use Rattle.layout.specs.Rows.{encodeRowIn}
+use Rattle.layout.specs.Image.{contents, contentsOf, rowsFrom, waitsFrom, lengthOf, encodeIn, encode, readable, imageOf, goodIn, goodImage, decode, waitsStart, waitsCount}
 use Rattle.layout.specs.Fits.{Fits}
 use Rattle.layout.specs.Good.{checks}
 use Rattle.layout.specs.Parts.{sound-narrow}
-use Rattle.layout.specs.Round.{Readable, readable-from, readable-to, length-encode, bytes-encode, rewritten, fits-image, read-back, readable-encode}
-use Rattle.layout.specs.Formed.{Formed, formed-from, formed-to}
+use Rattle.layout.specs.Round.{readable-from, readable-to, length-encode, bytes-encode, rewritten, fits-image, read-back, readable-encode}
+use Rattle.layout.specs.Formed.{formed-from}
 use Rattle.layout.specs.Checks.{checks-is}
 use Rattle.layout.specs.Longest.{longest, longest-full}
 

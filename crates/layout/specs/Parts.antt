@@ -1,21 +1,17 @@
 -- Dots, clocks, entries and waiting removes read back as written, over the width of an actor.
-use mathlib.Core.Path.{_≡_, refl, sym, ap, _∙_}
-use mathlib.Core.List.{List, [], _∷_, _++_}
-use Prim.Native.Nat.{ℕ, _+_, _*_, _^_, _≤_, _<_}
-use native.Mathlib.Omega.{arith}
+use mathlib.Core.Path.{refl, sym}
+use mathlib.Core.List.{List}
+use Prim.Native.Nat.{ℕ, _+_, _<_}
 use native.Mathlib.Nat.{add-assoc}
-use lib.ListN.{length}
-use Rattle.tables.specs.Table.{All}
 use Rattle.dots.specs.declared.Dot.{Dot}
 use Rattle.dots.specs.Dot.{actorOf, dot}
 use Rattle.dots.specs.Clock.{Clock}
-use Rattle.replica.specs.Replica.{Entry, Wait, Replica}
+use Rattle.replica.specs.Replica.{Entry, Wait}
 use Rattle.layout.specs.Fields.{u32At, le32}
-use Rattle.layout.specs.Lists.{listAt, bytesOf}
 use Rattle.layout.specs.Clock.{Width, narrow, dotIn, dotEndIn, encodeDotIn, clockIn, clockEndIn, encodeClockIn}
 use Rattle.layout.specs.Rows.{rowIn, rowEndIn, encodeRowIn, waitIn, waitEndIn, encodeWaitIn}
-use Rattle.layout.specs.Fits.{FitMembers, FitsDotIn, FitsClockIn, FitsRowIn, FitsWaitIn}
-use Rattle.layout.specs.Form.{Form, Faithful, form32, form64, faithful32, faithful64, ends-at, pair, faithful-pair, counted, faithful-counted}
+use Rattle.layout.specs.Fits.{FitMembers, FitsDotIn, FitsClockIn, FitsRowIn, FitsWaitIn, FitsClock, FitsRow, FitsWait}
+use Rattle.layout.specs.Form.{Form, Faithful, form32, form64, faithful32, faithful64, ends-at, faithful-pair, counted, faithful-counted}
 
 abbrev members : Form (List ℕ)
 members = counted 4 u32At le32
@@ -63,3 +59,14 @@ module _ (A : Width) where
   pub faithful-wait : Sound A → Faithful waitForm (FitsWaitIn A)
   unfolding waitIn waitEndIn encodeWaitIn
   faithful-wait W = faithful-pair clockForm members (λ c ms. record { clock = c; members = ms }) (λ w. w .clock) (λ w. w .members) (faithful-clock W) faithful-members (λ c ms. refl) (λ c ms. refl) (λ w. refl)
+
+-- ---- 12 bytes per dot
+
+pub clock-laws : Faithful (clockForm narrow) FitsClock
+clock-laws = faithful-clock narrow sound-narrow
+
+pub row-laws : Faithful (rowForm narrow) FitsRow
+row-laws = faithful-row narrow sound-narrow
+
+pub wait-laws : Faithful (waitForm narrow) FitsWait
+wait-laws = faithful-wait narrow sound-narrow

@@ -1,26 +1,24 @@
 -- The round trip of a whole image, over the width of an actor: bytes that can be read are the writing of what they say, and what is
 -- written can be read and says what was written. Neither asks for well-formed values.
-use mathlib.Core.Path.{_≡_, refl, sym, ap, ap₂, _∙_}
-use mathlib.Core.Bool.{Bool, true, false}
-use mathlib.Core.List.{List, [], _∷_, _++_}
-use Prim.Native.Nat.{ℕ, _+_, _*_, _^_, _≤_, _<_}
+use mathlib.Core.Path.{_≡_, sym, ap, ap₂, _∙_}
+use mathlib.Core.List.{List, _++_}
+use Prim.Native.Nat.{ℕ, _+_, _^_, _≤_, _<_}
 use native.Mathlib.Omega.{arith}
-use native.Mathlib.Nat.{add-assoc}
-use lib.Dec.{T, leb, eqb, leb→le, eqb→eq, le→leb}
-use borrow.Author.Tests.{eq-eqb, le-leb}
+use lib.Dec.{T, eqb, leb→le, eqb→eq, le→leb}
+use borrow.Author.Tests.{eq-eqb}
 use lib.ListN.{length, length-append}
-use Rattle.tables.specs.Table.{All, alls, alls-from, alls-to}
+use Rattle.tables.specs.Table.{alls-from, alls-to}
 use Rattle.dots.specs.Clock.{Clock}
 use Rattle.replica.specs.Replica.{Entry, Wait, Replica}
-use Rattle.layout.specs.Fields.{Bytes, u16At, u32At, le16, le32, length-le16, length-le32}
+use Rattle.layout.specs.Fields.{Bytes, le16, le32, length-le16, length-le32}
 use Rattle.layout.specs.Lists.{listAt, endAfter, bytesOf}
 use Rattle.layout.specs.Clock.{Width, clockIn, clockEndIn, encodeClockIn}
 use Rattle.layout.specs.Rows.{rowIn, rowEndIn, encodeRowIn, waitIn, waitEndIn, encodeWaitIn}
 use Rattle.layout.specs.Image.{version, zeroField, totalLength, entriesStart, entriesCount, waitsStart, waitsCount, contents, contentsOf, rowsFrom, waitsFrom, lengthOf, encodeIn, readableIn, imageIn}
 use Rattle.layout.specs.Fits.{FitsIn}
 use Rattle.layout.specs.Held.{Holds, holds-join, holds-left, holds-right, holds-self, holds-all, holds-le16, reads-le16, bytes-le16, holds-le32, reads-le32, bytes-le32, bytes-append}
-use Rattle.layout.specs.Form.{Form, Faithful, length-listAt, span-list, stands-list, back-list, fits-list, bytes-list, few-list}
-use Rattle.layout.specs.Parts.{Sound, clockForm, rowForm, waitForm, faithful-clock, faithful-row, faithful-wait}
+use Rattle.layout.specs.Form.{length-listAt, span-list, stands-list, back-list, fits-list, bytes-list, few-list}
+use Rattle.layout.specs.Parts.{Sound, rowForm, waitForm, faithful-clock, faithful-row, faithful-wait}
 
 -- ---- the contents
 

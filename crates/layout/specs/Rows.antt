@@ -1,5 +1,5 @@
 -- "An entry is member, clock. A waiting remove is clock, 32-bit count, ascending members."
-use mathlib.Core.List.{List, [], _∷_, _++_}
+use mathlib.Core.List.{List, _++_}
 use Prim.Native.Nat.{ℕ, _+_, _*_}
 use lib.ListN.{length}
 use Rattle.replica.specs.Replica.{Entry, Wait}
