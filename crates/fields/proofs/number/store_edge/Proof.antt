@@ -1,0 +1,16 @@
+use Rattle.fields.proofs.Room.{le32-bytes}
+use Rattle.layout.specs.Fields.{le32}
+use mathlib.Core.Path.{_≡_}
+use borrow.Author.Needs.{needs}
+use Rattle.fields.proofs.number.store_edge.Statement.{statement}
+use Rattle.fields.proofs.number.store_edge.Tie as tie
+
+returns : tie.Need-returns
+returns c = le32-bytes _ _ _ _ _ _ _ _ (c .before .before .before .before .before .before .before .before .before .before .before .before .before .before .put-after .ensures) (c .before .before .before .before .before .before .before .before .before .before .put-after2 .ensures) (c .before .before .before .before .before .before .put-after3 .ensures) (c .before .before .put-after4 .ensures)
+
+pub store-edge-spec : {M : Type 1} → statement M
+store-edge-spec =
+    tie.close
+    (tie.spec (λ c. search needs) (λ c κs. search needs) (λ c. search needs) (λ c. search needs)
+    (λ c κs. search needs) (λ c. search needs) (λ c. search needs) (λ c κs. search needs) (λ c. search needs)
+    (λ c. search needs) (λ c κs. search needs) (λ c. search needs) returns)
