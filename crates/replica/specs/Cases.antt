@@ -136,6 +136,26 @@ pub marked : map (λ c. c .given) cases ≡ map (λ c. c .expected) cases
 unfolding covers merged applied resetBy intersection gap zip holds seen setOf unite joinWaits removeFrom removesFrom settle takes add remove stay stayAt staying merge rewait resetWaits reset settled validateOp
 marked = refl
 
+-- ---- "Easy ways to get it wrong", and what the rules for removes say in passing
+
+abbrev pub traps : List Case
+traps =
+    -- "Letting a remove settle older waiting ones": V {2:5} covers the waiting {2:3}, which a remove of 6 leaves alone
+    record { number = 1; given = Replicated (remove (dot 2 1 ∷ []) (6 ∷ []) after12) ∷ []; expected = Replicated (rep (dot 2 5 ∷ []) [] (wait (dot 2 3 ∷ []) (5 ∷ []) ∷ [])) ∷ [] }
+    -- "Testing "waits" by Greater only and losing the concurrent case": E, remove 5 by {2:1}
+    ∷ record { number = 2; given = Replicated (remove (dot 2 1 ∷ []) (5 ∷ []) E) ∷ []; expected = Replicated (rep (dot 1 1 ∷ []) (holding 5 (dot 1 1 ∷ []) ∷ []) (wait (dot 2 1 ∷ []) (5 ∷ []) ∷ [])) ∷ [] }
+    -- "Treating an add of no members as nothing: V still moves": E, add 1.2 of none
+    ∷ record { number = 3; given = Replicated (add (dot 1 2) [] E) ∷ []; expected = Replicated (rep (dot 1 2 ∷ []) (holding 5 (dot 1 1 ∷ []) ∷ []) []) ∷ [] }
+    -- "the remove waits, joined to one with an equal clock": case 7, then remove 6 and 4 by the same clock
+    ∷ record { number = 4; given = Replicated (remove cover (6 ∷ 4 ∷ 6 ∷ []) after7) ∷ []; expected = Replicated (rep (dot 1 1 ∷ []) [] (wait cover (4 ∷ 5 ∷ 6 ∷ []) ∷ [])) ∷ [] }
+    -- "An empty member list may wait": E, remove none by {2:1}
+    ∷ record { number = 5; given = Replicated (remove (dot 2 1 ∷ []) [] E) ∷ []; expected = Replicated (rep (dot 1 1 ∷ []) (holding 5 (dot 1 1 ∷ []) ∷ []) (wait (dot 2 1 ∷ []) [] ∷ [])) ∷ [] }
+    ∷ []
+
+pub avoided : map (λ c. c .given) traps ≡ map (λ c. c .expected) traps
+unfolding covers merged applied resetBy zip setOf unite joinWaits removeFrom removesFrom settle takes add remove rewait resetWaits reset
+avoided = refl
+
 -- ---- "At the limits: 16 actors granted, a 17th refused with 6; 64 members granted, 65 refused with 7; an add of a 65th member that a waiting
 -- remove kills at once is granted."
 
