@@ -21,4 +21,6 @@ pub mod History
 pub mod Validate
 pub mod Reads
 pub mod Cases
+pub mod HistoryLaws
 pub mod StaysDown
+pub mod LimitLaws

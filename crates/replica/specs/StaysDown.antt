@@ -1,7 +1,7 @@
 -- What is taken down stays down. Once a remove with clock c has taken a member down, that member never again holds a dot that c covers, whatever is added,
 -- removed or merged afterwards, and however old the other replicas are. Only a reset whose clock covers the dot forgets it.
 use Prim.Native.Nat.{ℕ, zero, suc, _≤_, _<_}
-use mathlib.Core.Path.{_≡_, refl, sym, ap, _∙_}
+use mathlib.Core.Path.{_≡_, refl, sym, ap, _∙_, subst}
 use mathlib.Core.Bool.{Bool, true, false, not, _&&_, _||_, and-false, false≢true}
 use mathlib.Core.List.{List, [], _∷_}
 use native.Mathlib.Nat.{not-suc-le-zero}
@@ -10,29 +10,23 @@ use lib.Dec.{T, leb, ltb, eqb, leb→le, le→leb, lt→ltb, eqb→eq}
 use borrow.Author.Tests.{leb-false, ne-eqb, lt-leb}
 use Rattle.tables.specs.Truth.{table, imp, mp, and-l, and-r, and-i, or-l, or-r, or-e}
 use Rattle.tables.specs.Table.{get, pick, any, every}
-use Rattle.tables.specs.Zip.{zip}
+use Rattle.tables.specs.Zip.{zip, by-lt}
 use Rattle.dots.specs.declared.Dot.{Dot}
 use Rattle.dots.specs.Dot.{actorOf, dot}
 use Rattle.dots.specs.Clock.{Clock, count, normal, covers, merged, resetBy}
 use Rattle.dots.specs.ClockLaws.{covers-le}
-use Rattle.replica.specs.Replica.{Wait, Replica, memberSets, holds, seen, kills, killed}
+use Rattle.replica.specs.Replica.{Wait, Replica, memberSets, isIn, holds, seen, kills, killed}
 use Rattle.replica.specs.Rules.{setOf, unite, joinWaits, removeFrom, removesFrom, settle, add, remove, stay, stayAt, staying, merge, rewait, resetWaits, reset}
 use Rattle.replica.specs.History.{Add, Remove, apply, Event, Apply, MergeWith, MergeInto, Reset, step, run, judged}
-use Rattle.replica.specs.WellFormed.{sound}
+use Rattle.replica.specs.HistoryLaws.{fair, step-sound, either, judged-sound, run-judged}
+use Rattle.replica.specs.WellFormed.{sound, sound-fine}
+use Rattle.replica.specs.Membership.{in-holds}
 use Rattle.replica.specs.Listed.{listed}
 use Rattle.replica.specs.AddLaws.{above, add-seen, added}
 use Rattle.replica.specs.RemoveLaws.{Removed, removed}
 use Rattle.replica.specs.ResetLaws.{was-reset}
 use Rattle.replica.specs.Merged.{live}
-use Rattle.replica.specs.MergeLaws.{merge-says, merge-sound, merge-killed, merge-commutes}
-
--- the event's arguments are well-formed: a remove's clock is normalised, and the other replica of a merge well-formed, limits aside
-unfoldable pub fair : Event → Bool
-fair (Apply (Add d ms)) = true
-fair (Apply (Remove c ms)) = normal c
-fair (MergeWith B) = sound B
-fair (MergeInto B) = sound B
-fair (Reset c) = true
+use Rattle.replica.specs.MergeLaws.{merge-says, merge-killed, merge-commutes}
 
 -- the event is a reset whose clock covers the dot (a, n)
 unfoldable pub forgets : ℕ → ℕ → Event → Bool
@@ -46,21 +40,7 @@ pub record Gone (A : Replica) (m a n : ℕ) : Type 0 where
   pub absent : holds A m a n ≡ false
   pub known : T (seen A a n || killed A m a n)
 
--- ---- every event leaves a replica well-formed
-
-pub step-sound : (e : Event) (A : Replica) → T (fair e) → T (sound A) → T (sound (step e A))
-unfolding fair step apply
-step-sound (Apply (Add d ms)) A f s = go (covers (A .clock) (d ∷ [])) refl
-  where
-    go : (b : Bool) → covers (A .clock) (d ∷ []) ≡ b → T (sound (add d ms A))
-    go true e = rw (add-seen d ms A e) s
-    go false e = (added d ms A s e) .is-sound
-step-sound (Apply (Remove c ms)) A f s = (removed c ms A f s) .is-sound
-step-sound (MergeWith B) A f s = merge-sound A B s f
-step-sound (MergeInto B) A f s = merge-sound B A f s
-step-sound (Reset c) A f s = (was-reset c A s) .is-sound
-
--- ---- and what is gone stays gone
+-- ---- what is gone stays gone
 
 seen-le : (A B : Replica) (a n : ℕ) → count (A .clock) a ≤ count (B .clock) a → T (seen A a n) → T (seen B a n)
 unfolding seen
@@ -166,10 +146,6 @@ neither : (a b : Bool) → (a || b) ≡ false → (a ≡ false) × (b ≡ false)
 neither true b e = absurd (false≢true (sym e))
 neither false b e = (refl, e)
 
-either : (P : Replica → Type 0) (b : Bool) (A B : Replica) → P A → P B → P (pick b A B)
-either P true A B p q = p
-either P false A B p q = q
-
 -- through any later events, under any judge
 pub stays-gone : (grants : Event → Replica → Bool) (later : List Event) (A : Replica) → T (every fair later) → T (sound A) → (m a n : ℕ) → any (forgets a (suc n)) later ≡ false
     → Gone A m a (suc n) → Gone (judged grants later A) m a (suc n)
@@ -185,14 +161,6 @@ stays-gone grants (e ∷ later) A f s m a n z g =
 is-true : (b : Bool) → T b → b ≡ true
 is-true true t = refl
 is-true false t = absurd t
-
--- a history of such events ends in a well-formed replica
-pub judged-sound : (grants : Event → Replica → Bool) (later : List Event) (A : Replica) → T (every fair later) → T (sound A) → T (sound (judged grants later A))
-unfolding judged
-judged-sound grants [] A f s = s
-judged-sound grants (e ∷ later) A f s =
-    judged-sound grants later (pick (grants e A) (step e A) A) (and-r (fair e) (every fair later) f)
-    (either (λ B. T (sound B)) (grants e A) (step e A) A (step-sound e A (and-l (fair e) (every fair later) f) s) s)
 
 -- ---- the remove that takes a member down
 
@@ -213,21 +181,31 @@ remove-takes c ms A k s m a n t l = record { absent = r .holds-is m a n ∙ ap (
     go false e = or-r (seen (remove c ms A) a (suc n)) (killed (remove c ms A) m a (suc n))
         (rw (r .killed-is m a (suc n), e, here) (or-r (killed A m a (suc n)) true tt))
 
--- A shop that has taken a product down by a remove (c, ms) never sees it come back by a dot that c covers: not through the adds, removes and merges that
--- follow, in any order, some of them refused by a judge of any kind; not by a replica that was away all the time and still has it. It comes back only by a
--- dot that c doesn't cover, that is by an add that the remover had not seen. A reset whose clock covers the dot is the one way to forget.
-pub stays-down : (grants : Event → Replica → Bool) (c : Clock) (ms : List ℕ) (A : Replica) (later : List Event) → T (normal c) → T (sound A) → T (every fair later)
-    → (m a n : ℕ) → T (listed ms m) → 0 < n → n ≤ count c a → any (forgets a n) later ≡ false → holds (judged grants later (remove c ms A)) m a n ≡ false
-stays-down grants c ms A later k s f m a zero t p l z = absurd (not-suc-le-zero p)
-stays-down grants c ms A later k s f m a (suc n) t p l z =
-    (stays-gone grants later (remove c ms A) f ((removed c ms A k s) .is-sound) m a n z (remove-takes c ms A k s m a n t l)) .absent
+module _ (grants : Event → Replica → Bool) (c : Clock) (ms : List ℕ) (A : Replica) (later : List Event) (clock-ok : T (normal c)) (replica-ok : T (sound A)) (events-ok : T (every fair later)) where
+  abbrev afterwards : Replica
+  afterwards = judged grants later (remove c ms A)
 
--- every event granted
-run-judged : (later : List Event) (A : Replica) → run later A ≡ judged (λ e B. true) later A
-unfolding run judged
-run-judged [] A = refl
-run-judged (e ∷ later) A = run-judged later (step e A)
+  removed-sound : T (sound (remove c ms A))
+  removed-sound = (removed c ms A clock-ok replica-ok) .is-sound
 
+  -- A shop that has taken a product down by a remove (c, ms) never sees it come back by a dot that c covers: not through the adds, removes and merges
+  -- that follow, in any order, some of them refused by a judge of any kind; not by a replica that was away all the time and still has it. It comes back
+  -- only by a dot that c doesn't cover. A reset whose clock covers the dot is the one way to forget. A dot has a counter above 0.
+  pub stays-down : (m a n : ℕ) → T (listed ms m) → 0 < n → n ≤ count c a → any (forgets a n) later ≡ false → holds afterwards m a n ≡ false
+  stays-down m a zero t p l z = absurd (not-suc-le-zero p)
+  stays-down m a (suc n) t p l z = (stays-gone grants later (remove c ms A) events-ok removed-sound m a n z (remove-takes c ms A clock-ok replica-ok m a n t l)) .absent
+
+  -- so a member that was taken down and is there again holds a dot that c doesn't cover, as long as no reset forgets what c covers
+  pub back-by-new : (m : ℕ) → T (listed ms m) → ((a n : ℕ) → 0 < n → n ≤ count c a → any (forgets a n) later ≡ false)
+      → T (isIn afterwards m) → (a : ℕ) × (n : ℕ) × T (holds afterwards m a n) × (count c a < n)
+  back-by-new m t z i =
+      let d = in-holds afterwards (sound-fine afterwards (judged-sound grants later (remove c ms A) events-ok removed-sound)) m i in
+      (d .0, suc (d .1), d .2, new (d .0) (d .1) (d .2))
+    where
+      new : (a n : ℕ) → T (holds afterwards m a (suc n)) → count c a < suc n
+      new a n h = by-lt (count c a) (suc n) (λ l. l) (λ l. absurd (subst T (stays-down m a (suc n) t (omega arith) l (z a (suc n) (omega arith) l)) h))
+
+-- the same where every event is granted
 pub stays-down-all : (c : Clock) (ms : List ℕ) (A : Replica) (later : List Event) → T (normal c) → T (sound A) → T (every fair later)
     → (m a n : ℕ) → T (listed ms m) → 0 < n → n ≤ count c a → any (forgets a n) later ≡ false → holds (run later (remove c ms A)) m a n ≡ false
 stays-down-all c ms A later k s f m a n t p l z = rw (run-judged later (remove c ms A)) (stays-down (λ e B. true) c ms A later k s f m a n t p l z)
