@@ -2,15 +2,17 @@
 use Prim.Native.Nat.{ℕ, _≤_, _<_, compare}
 use mathlib.Core.Path.{_≡_}
 use mathlib.Core.Logic.{_↔_}
-use mathlib.Core.Bool.{Bool, false, _&&_}
+use mathlib.Core.Bool.{Bool, true, false, _&&_}
 use mathlib.Core.List.{List, [], _∷_}
 use native.Mathlib.Omega.{arith}
 use lib.Dec.{T, leb, ltb, eqb, leb→le, le→leb, eqb→eq}
 use lib.ListN.{length}
 use borrow.Author.Tests.{ltb-false, le-ltb, eq-eqb}
+use Rattle.tables.specs.Order.{nat-order}
+use Rattle.tables.specs.Ascending.{ascending, before, asc-from}
 use Rattle.tables.specs.Truth.{and-l, and-r, and-i}
 use Rattle.tables.specs.Table.{All, any, every, all-map, any-none, none-any, every-all, all-every}
-use Rattle.tables.specs.Refusal.{Refusal, _if_, firstOf, First, first-right, done-right}
+use Rattle.tables.specs.Refusal.{Refusal, _if_, firstOf, First, first-right, first-lowest, done-right}
 use Rattle.replica.specs.Replica.{Wait, Replica}
 use Rattle.replica.specs.WellFormed.{sound}
 
@@ -54,6 +56,11 @@ module _ (l : Limits) (A : Replica) where
   pub broken-right : (k : ℕ) → 0 < k → (broken l A ≡ k) ↔ First (limitsOf l A) k
   unfolding broken
   broken-right = first-right (limitsOf l A)
+
+  -- "The lowest number that applies is given."
+  pub broken-lowest : All (λ r. r .applies ≡ true → broken l A ≤ r .number) (limitsOf l A)
+  unfolding broken limitsOf ascending before
+  broken-lowest = first-lowest (limitsOf l A) (asc-from compare nat-order (6 ∷ 7 ∷ 8 ∷ 9 ∷ []) tt)
 
   abbrev crowded : Wait → Bool
   crowded w = ltb (l .named) (length (w .members))
