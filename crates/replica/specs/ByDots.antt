@@ -11,7 +11,7 @@ use Rattle.dots.specs.Dot.{clocks}
 use Rattle.dots.specs.Clock.{Clock, count, covers, merged}
 use Rattle.dots.specs.ClockLaws.{merged-count, merged-normal, dots-ext}
 use Rattle.replica.specs.Replica.{Entry, Replica, entries, waits, entry, waitAt, holds, seen, killed}
-use Rattle.replica.specs.Rules.{unite, joinWaits, settle, stay, stayAt, staying, merge}
+use Rattle.replica.specs.Rules.{unite, joinWaits, settle, stay, stayAt, staying, together, merge}
 use Rattle.replica.specs.OneDot.{keepOne, keep-one}
 use Rattle.replica.specs.Waits.{joined-get, joined-normal, joined-kills, unite-good}
 use Rattle.replica.specs.Removes.{FineEntries}
@@ -57,13 +57,9 @@ module _ (keep : ℕ → ℕ → ℕ → Bool) (A B : Replica) where
 
 -- ---- the rule
 
--- what the rule applies the waiting removes to
-unfoldable pub together : Replica → Replica → Replica
-together A B = record { clock = merged (A .clock) (B .clock); entries = staying A B; waiting = joinWaits (A .waiting) (B .waiting) }
-
 module _ (A B : Replica) (h : Fine A) (g : Fine B) where
   pub together-loose : Loose (together A B)
-  unfolding together staying stayAt
+  unfolding staying stayAt
   together-loose = record {
     clock-ok = merged-normal (A .clock) (B .clock) (g .clock-ok);
     entries-ok = (keeping-fine (stay A B) A B g) .rows;
@@ -75,13 +71,13 @@ module _ (A B : Replica) (h : Fine A) (g : Fine B) where
 
   -- "a dot stays in a member's entry if both hold it, or one holds it and the other's V doesn't cover it"
   pub together-holds : (m a n : ℕ) → holds (together A B) m a (suc n) ≡ stay A B m a (suc n)
-  unfolding together staying stayAt stay holds seen
+  unfolding staying stayAt stay holds seen
   together-holds m a n =
       ap (λ (x : ℕ). eqb x (suc n)) (keeping-count (stay A B) A B m a)
       ∙ simp and-true at (keep-one (count (entry A m) a) (count (entry B m) a) (count (A .clock) a) (count (B .clock) a) (λ n. false) (λ n. false) (h .within m a) (g .within m a) n)
 
   together-killed : (m a n : ℕ) → killed (together A B) m a n ≡ (killed A m a n || killed B m a n)
-  unfolding together killed
+  unfolding killed
   together-killed m a n = joined-kills (A .waiting) (B .waiting) (h .waiting-ok) (g .waiting-ok) m a n
 
   merge-dots : (m a n : ℕ) → holds (settle (together A B)) m a (suc n) ≡ live A B m a (suc n)
@@ -91,7 +87,7 @@ module _ (A B : Replica) (h : Fine A) (g : Fine B) where
       ∙ ap₂ (λ (x y : Bool). x && not y) (together-holds m a n) (together-killed m a (suc n))
 
   pub merge-is : Merged A B (merge A B)
-  unfolding merge settle together
+  unfolding merge settle
   merge-is = record {
     fine = settle-fine (together A B) together-loose;
     clock-is = merged-count (A .clock) (B .clock);
@@ -123,7 +119,7 @@ module _ (A B : Replica) (h : Fine A) (g : Fine B) where
       ∙ keep-one (count (entry A m) a) (count (entry B m) a) (count (A .clock) a) (count (B .clock) a) (killed A m a) (killed B m a) (h .within m a) (g .within m a) n
 
   pub literal : merge A B ≡ byDots A B
-  unfolding byDots liveAt merge settle together holds unite
+  unfolding byDots liveAt merge settle holds unite
   literal = λ i. record { clock = merged (A .clock) (B .clock); entries = same-entries i; waiting = same-waiting i }
     where
       M : Replica

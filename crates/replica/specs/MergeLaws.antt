@@ -12,14 +12,14 @@ use lib.ListN.{length}
 use Rattle.tables.specs.Table.{All, pick, isSome, by-row, key-at, all-at, at-all}
 use Rattle.dots.specs.Clock.{Clock, count, covers}
 use Rattle.replica.specs.Replica.{Replica, waits, membersOf, entry, waitAt, isIn, holds, seen, killed}
-use Rattle.replica.specs.Rules.{unite, stay, merge, settled}
+use Rattle.replica.specs.Rules.{unite, stay, together, merge, settled}
 use Rattle.replica.specs.Waits.{Each, unite-each, kept-some}
 use Rattle.replica.specs.WellFormed.{sound, sound-fine, fine-sound, fine-ext}
 use Rattle.replica.specs.Limits.{Limits, broken, wellFormed, well-formed-from, well-formed-to}
 use Rattle.replica.specs.Judge.{granted, judge, mergeBy, granted-is}
 use Rattle.replica.specs.Settle.{settle-settled}
 use Rattle.replica.specs.Merged.{Merged, live, killed-kept, only-one, merge-swap, merge-self, merge-grouped}
-use Rattle.replica.specs.ByDots.{together, together-holds, merge-is, byDots, literal}
+use Rattle.replica.specs.ByDots.{together-holds, merge-is, byDots, literal}
 use Rattle.replica.specs.Membership.{Kept, membership}
 use Rattle.replica.specs.Report.{payload, merged-payload, report-elements, report-clock, report-waiting}
 
@@ -72,7 +72,7 @@ module _ (A B : Replica) (s : T (sound A)) (t : T (sound B)) where
   merge-sound = fine-sound (merge A B) (merge-says .fine)
 
   pub merge-settled : settled (merge A B) ≡ true
-  unfolding merge together
+  unfolding merge
   merge-settled = settle-settled (together A B)
 
   -- "demand 3": a member is in the merge exactly if it is kept

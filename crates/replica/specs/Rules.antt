@@ -66,9 +66,13 @@ stayAt A B m a = pick (stay A B m a (count (entry A m) a)) (count (entry A m) a)
 unfoldable pub staying : Replica → Replica → List Entry
 staying A B = join entries (λ m. join clocks (stayAt A B m) (entry A m) (entry B m)) (A .entries) (B .entries)
 
--- "V is the larger per actor. The waiting removes of both, joined by equal clock, are then applied again."
+-- "V is the larger per actor. The waiting removes of both, joined by equal clock,"
+abbrev pub together : Replica → Replica → Replica
+together A B = record { clock = merged (A .clock) (B .clock); entries = staying A B; waiting = joinWaits (A .waiting) (B .waiting) }
+
+-- "are then applied again"
 unfoldable pub merge : Replica → Replica → Replica
-merge A B = settle (record { clock = merged (A .clock) (B .clock); entries = staying A B; waiting = joinWaits (A .waiting) (B .waiting) })
+merge A B = settle (together A B)
 
 -- "Reset by c: V and each entry and waiting clock are reset by c; entries and waiting removes with empty clocks go. Waiting removes whose
 -- clocks became equal are joined. The result may be unsettled."
