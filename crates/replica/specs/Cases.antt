@@ -15,7 +15,7 @@ use Rattle.replica.specs.Replica.{Entry, Wait, Replica, holds, seen}
 use Rattle.replica.specs.Rules.{setOf, unite, joinWaits, removeFrom, removesFrom, settle, takes, add, remove, stay, stayAt, staying, merge, rewait, resetWaits, reset, settled}
 use Rattle.replica.specs.Limits.{full, limitsOf, broken}
 use Rattle.replica.specs.History.{Add}
-use Rattle.replica.specs.Validate.{validateOp}
+use Rattle.replica.specs.Validate.{validateOp, Spent, reportable, firstSpent, validateMerge}
 
 -- what a case speaks of
 pub data Value : Type 0 where
@@ -24,6 +24,7 @@ pub data Value : Type 0 where
   Replicated : Replica → Value
   Gap : Option DotRange → Value
   Whether : Bool → Value
+  DoubleSpent : Option Spent → Value
 
 -- a case: what document 01 gives, worked out by the definitions, and what it says comes of it
 pub record Case : Type 0 where
@@ -136,7 +137,13 @@ pub marked : map (λ c. c .given) cases ≡ map (λ c. c .expected) cases
 unfolding covers merged applied resetBy intersection gap zip holds seen setOf unite joinWaits removeFrom removesFrom settle takes add remove stay stayAt staying merge rewait resetWaits reset settled validateOp
 marked = refl
 
--- ---- "Easy ways to get it wrong", and what the rules for removes say in passing
+abbrev five : Entry
+five = holding 5 (dot 1 1 ∷ dot 3 3 ∷ [])
+
+abbrev eighth : Entry
+eighth = holding 8 (dot 1 1 ∷ dot 3 3 ∷ [])
+
+-- ---- "Easy ways to get it wrong", and what the rules for removes and for `validate_merge` say in passing
 
 abbrev pub traps : List Case
 traps =
@@ -150,10 +157,16 @@ traps =
     ∷ record { number = 4; given = Replicated (remove cover (6 ∷ 4 ∷ 6 ∷ []) after7) ∷ []; expected = Replicated (rep (dot 1 1 ∷ []) [] (wait cover (4 ∷ 5 ∷ 6 ∷ []) ∷ [])) ∷ [] }
     -- "An empty member list may wait": E, remove none by {2:1}
     ∷ record { number = 5; given = Replicated (remove (dot 2 1 ∷ []) [] E) ∷ []; expected = Replicated (rep (dot 1 1 ∷ []) (holding 5 (dot 1 1 ∷ []) ∷ []) (wait (dot 2 1 ∷ []) [] ∷ [])) ∷ [] }
+    -- "Search order: our members ascending, then theirs, then actors": 1.1 of 5 and 8 before 2.2 of 6 and 7; 3.3 of 5 and 5 is none
+    ∷ record {
+      number = 6;
+      given = DoubleSpent (validateMerge (rep [] (five ∷ holding 6 (dot 2 2 ∷ []) ∷ []) []) (rep [] (holding 5 (dot 3 3 ∷ []) ∷ holding 7 (dot 2 2 ∷ []) ∷ eighth ∷ []) [])) ∷ [];
+      expected = DoubleSpent (some (record { dot = dot 1 1; our = 5; their = 8 })) ∷ [];
+    }
     ∷ []
 
 pub avoided : map (λ c. c .given) traps ≡ map (λ c. c .expected) traps
-unfolding covers merged applied resetBy zip setOf unite joinWaits removeFrom removesFrom settle takes add remove rewait resetWaits reset
+unfolding covers merged applied resetBy zip setOf unite joinWaits removeFrom removesFrom settle takes add remove rewait resetWaits reset reportable firstSpent validateMerge
 avoided = refl
 
 -- ---- "At the limits: 16 actors granted, a 17th refused with 6; 64 members granted, 65 refused with 7; an add of a 65th member that a waiting

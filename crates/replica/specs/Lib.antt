@@ -19,7 +19,9 @@ pub mod RemoveLaws
 pub mod ResetLaws
 pub mod History
 pub mod Validate
+pub mod ValidateLaws
 pub mod Reads
+pub mod ReadLaws
 pub mod Cases
 pub mod HistoryLaws
 pub mod StaysDown

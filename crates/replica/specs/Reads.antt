@@ -3,7 +3,7 @@ use Prim.Native.Nat.{ℕ}
 use mathlib.Core.Bool.{Bool}
 use mathlib.Core.List.{List, map}
 use Rattle.dots.specs.Clock.{Clock}
-use Rattle.replica.specs.Replica.{Replica, entry, isIn}
+use Rattle.replica.specs.Replica.{Replica, entries, entry, isIn}
 
 -- "A read context is its add clock, remove clock and answer."
 pub record Read (X : Type 0) : Type 0 where

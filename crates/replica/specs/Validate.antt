@@ -1,6 +1,7 @@
 -- What `validate_op` and `validate_merge` report, on replicas. Each definition stands under the sentence that it renders.
+use Prim.Native.Nat.{ℕ}
 use mathlib.Core.Bool.{Bool, not, _&&_}
-use mathlib.Core.Option.{Option, none, some}
+use mathlib.Core.Option.{Option, none, some, Option·map}
 use mathlib.Core.List.{List, [], _∷_, _++_, map}
 use lib.Dec.{eqb}
 use Rattle.tables.specs.Table.{pick}
@@ -42,5 +43,17 @@ abbrev pub first : {X : Type 0} → (X → Bool) → List X → Option X
 first p [] = none
 first p (x ∷ xs) = pick (p x) (some x) (first p xs)
 
-unfoldable pub validateMerge : Replica → Replica → Option Triple
-validateMerge A B = first reportable (triples (A .entries) (B .entries))
+unfoldable pub firstSpent : Replica → Replica → Option Triple
+firstSpent A B = first reportable (triples (A .entries) (B .entries))
+
+-- what is reported of it: "double-spent dot, with dot and both members"
+pub record Spent : Type 0 where
+  pub dot : Dot
+  pub our : ℕ
+  pub their : ℕ
+
+abbrev pub spentOf : Triple → Spent
+spentOf t = record { dot = t .dot; our = t .our .member; their = t .their .member }
+
+unfoldable pub validateMerge : Replica → Replica → Option Spent
+validateMerge A B = Option·map spentOf (firstSpent A B)
