@@ -4,10 +4,10 @@ use mathlib.Core.Path.{_≡_, sym}
 use mathlib.Core.Bool.{Bool, true, _&&_}
 use mathlib.Core.List.{List, [], _∷_, map}
 use native.Mathlib.Omega.{arith}
-use lib.Dec.{T, leb, ltb, eqb, leb→le, le→leb, ltb→lt, lt→ltb, eqb→eq}
+use lib.Dec.{T, leb, eqb, leb→le, le→leb, ltb→lt, lt→ltb, eqb→eq}
 use lib.ListN.{length}
 use Rattle.tables.specs.Order.{lt-nat, nat-lt}
-use Rattle.tables.specs.Truth.{and-l, and-r, and-i, bool-ext}
+use Rattle.tables.specs.Truth.{and-r, and-i, bool-ext}
 use Rattle.tables.specs.Table.{Normal, Asc, Below, All, every, every-all, all-every, all-map, all-both}
 use Rattle.tables.specs.Ascending.{isLt, before, ascending, asc-from}
 use Rattle.tables.specs.Zip.{Rise}
@@ -23,29 +23,12 @@ use Rattle.layout.specs.Lists.{listAt, endAfter}
 use Rattle.layout.specs.Clock.{Width, narrow, dotIn, dotEndIn, clockIn, clockEndIn}
 use Rattle.layout.specs.Rows.{membersAt, memberEnd, rowIn, rowEndIn, rowsAt, waitIn, waitEndIn, waitsAt}
 use Rattle.layout.specs.Image.{version, zeroField, totalLength, entriesStart, entriesCount, waitsStart, waitsCount, readableIn, imageIn, imageOf, readable, goodIn, goodImage}
-use Rattle.layout.specs.Good.{risingMembers, goodMembersIn, goodClockIn, goodRowsIn, goodWaitsIn, goodContentsIn, goodPartsIn, goodEntry, checksIn, checks, goodMembers, goodClock, goodRows, goodWaits, goodParts}
+use Rattle.layout.specs.Good.{namedTests, contentsTests, clockTests, rowTests, waitTests, partsTests, risingMembers, goodMembersIn, goodClockIn, goodRowsIn, goodWaitsIn, goodContentsIn, goodPartsIn, goodEntry, checksIn, checks, goodMembers, goodClock, goodRows, goodWaits, goodParts}
 use Rattle.layout.specs.Form.{length-listAt, span-list}
 use Rattle.layout.specs.Parts.{Sound, sound-narrow, rowForm, waitForm, faithful-clock, faithful-row, faithful-wait}
+use Rattle.layout.specs.Kit.{each-from, each-to}
 use Rattle.layout.specs.Round.{Readable, readable-from, readable-to, same}
 use Rattle.layout.specs.Formed.{Formed, EntryFine, WaitFine, formed-from, formed-to}
-
--- ---- tests in a row, the last of which may be a whole rest
-
-abbrev chain : List Bool → Bool → Bool
-chain [] b = b
-chain (t ∷ ts) b = t && chain ts b
-
-abbrev Each : List Bool → Bool → Type 0
-Each [] b = T b
-Each (t ∷ ts) b = T t × Each ts b
-
-each-from : (ts : List Bool) (b : Bool) → T (chain ts b) → Each ts b
-each-from [] b h = h
-each-from (t ∷ ts) b h = (and-l t (chain ts b) h, each-from ts b (and-r t (chain ts b) h))
-
-each-to : (ts : List Bool) (b : Bool) → Each ts b → T (chain ts b)
-each-to [] b h = h
-each-to (t ∷ ts) b h = and-i t (chain ts b) (h .0) (each-to ts b (h .1))
 
 -- ---- numbers that rise from low on
 
@@ -117,18 +100,15 @@ module _ (most : ℕ) (s : List ℕ) (q : ℕ) where
   length-ms : length (membersAt s (q + 4) (u32At s q)) ≡ u32At s q
   length-ms = length-listAt u32At memberEnd s (q + 4) (u32At s q)
 
-  abbrev namedTests : List Bool
-  namedTests = leb (q + 4) (length s) ∷ leb (u32At s q) most ∷ leb (q + (4 + 4 * u32At s q)) (length s) ∷ []
-
   named-from : T (goodMembersIn most s q) → MembersFine most (membersAt s (q + 4) (u32At s q))
   unfolding goodMembersIn
   named-from t =
-      let h = each-from namedTests (risingMembers 0 ms) t in
+      let h = each-from (namedTests most s q) (risingMembers 0 ms) t in
       record { rises-ok = members-from 0 ms (h .1 .1 .1) .asc; named-ok = rw length-ms (leb→le (u32At s q) most (h .1 .0)) }
 
   named-to : q + (4 + 4 * u32At s q) ≤ length s → MembersFine most (membersAt s (q + 4) (u32At s q)) → T (goodMembersIn most s q)
   unfolding goodMembersIn
-  named-to h f = each-to namedTests (risingMembers 0 ms) (
+  named-to h f = each-to (namedTests most s q) (risingMembers 0 ms) (
     le→leb (q + 4) (length s) (omega arith),
     (le→leb (u32At s q) most (rw length-ms at (f .named-ok)), (le→leb (q + (4 + 4 * u32At s q)) (length s) h, members-to 0 ms (asc-rises ms (f .rises-ok)))),
   )
@@ -147,18 +127,15 @@ module _ (A : Width) (l : Limits) where
     normal-ok : Normal clocks c
     few-ok : length c ≤ l .actors
 
-  abbrev clockTests : List ℕ → ℕ → List Bool
-  clockTests s at = leb (at + 4) (length s) ∷ leb (u32At s at) (l .actors) ∷ leb (clockEndIn A s at) (length s) ∷ []
-
   clock-from : (s : List ℕ) (at : ℕ) → T (goodClockIn A l s at) → ClockFine (clockIn A s at)
   unfolding goodClockIn
   clock-from s at t =
-      let h = each-from (clockTests s at) (rising 0 (clockIn A s at)) t in
+      let h = each-from (clockTests A l s at) (rising 0 (clockIn A s at)) t in
       record { normal-ok = normal-from (clockIn A s at) (rw rising-is at (h .1 .1 .1)); few-ok = rw length-clock (leb→le (u32At s at) (l .actors) (h .1 .0)) }
 
   clock-to : (s : List ℕ) (at : ℕ) → clockEndIn A s at ≤ length s → ClockFine (clockIn A s at) → T (goodClockIn A l s at)
   unfolding goodClockIn clockEndIn
-  clock-to s at h f = each-to (clockTests s at) (rising 0 (clockIn A s at)) (
+  clock-to s at h f = each-to (clockTests A l s at) (rising 0 (clockIn A s at)) (
     le→leb (at + 4) (length s) (omega arith),
     (le→leb (u32At s at) (l .actors) (rw length-clock at (f .few-ok)), (le→leb (clockEndIn A s at) (length s) h, rw rising-is (normal-to (clockIn A s at) (f .normal-ok)))),
   )
@@ -179,14 +156,11 @@ module _ (A : Width) (l : Limits) where
     rises-ok : Rises low (membersIn es)
     rows-ok : All RowFine es
 
-  abbrev rowTests : List ℕ → ℕ → ℕ → List Bool
-  rowTests s p low = leb (p + 4) (length s) ∷ leb low (u32At s p) ∷ goodClockIn A l s (p + 4) ∷ ltb 0 (u32At s (p + 4)) ∷ []
-
   rows-from : (s : List ℕ) (p low n : ℕ) → T (goodRowsIn A l s p low n) → RowsFine low (rows s p n)
   unfolding goodRowsIn listAt rowIn
   rows-from s p low zero t = record { rises-ok = record { from = tt; asc = tt }; rows-ok = tt }
   rows-from s p low (suc n) t =
-      let h = each-from (rowTests s p low) (goodRowsIn A l s (rowEndIn A s p) (u32At s p + 1) n) t in
+      let h = each-from (rowTests A l s p low) (goodRowsIn A l s (rowEndIn A s p) (u32At s p + 1) n) t in
       let k = rows-from s (rowEndIn A s p) (u32At s p + 1) n (h .1 .1 .1 .1) in
       let c : RowFine (rowIn A s p) = record {
         clock-ok = clock-from s (p + 4) (h .1 .1 .0);
@@ -207,7 +181,7 @@ module _ (A : Width) (l : Limits) where
         let c = k .rows-ok .0 in
         let z = filled-long (clockIn A s (p + 4)) (c .filled-ok) in
         let others : RowsFine (u32At s p + 1) (rows s (rowEndIn A s p) n) = record { rises-ok = rises-others low (u32At s p) (membersIn (rows s (rowEndIn A s p) n)) (k .rises-ok); rows-ok = k .rows-ok .1 } in
-        each-to (rowTests s p low) (goodRowsIn A l s (rowEndIn A s p) (u32At s p + 1) n) (
+        each-to (rowTests A l s p low) (goodRowsIn A l s (rowEndIn A s p) (u32At s p + 1) n) (
           le→leb (p + 4) (length s) (omega arith),
           (
             le→leb low (u32At s p) (k .rises-ok .from .0),
@@ -230,14 +204,11 @@ module _ (A : Width) (l : Limits) where
     later-ok : T (ascending cmpClock (last ∷ clocksIn ws))
     waits-ok : All (WaitFine l) ws
 
-  abbrev waitTests : List ℕ → ℕ → Clock → List Bool
-  waitTests s p last = goodClockIn A l s p ∷ isLt (cmpClock last (clockIn A s p)) ∷ goodMembersIn (l .named) s (clockEndIn A s p) ∷ []
-
   waits-from : (s : List ℕ) (p : ℕ) (last : Clock) (n : ℕ) → T (goodWaitsIn A l s p last n) → WaitsFine last (waits s p n)
   unfolding goodWaitsIn listAt waitIn ascending before
   waits-from s p last zero t = record { later-ok = tt; waits-ok = tt }
   waits-from s p last (suc n) t =
-      let h = each-from (waitTests s p last) (goodWaitsIn A l s (waitEndIn A s p) (clockIn A s p) n) t in
+      let h = each-from (waitTests A l s p last) (goodWaitsIn A l s (waitEndIn A s p) (clockIn A s p) n) t in
       let c = clock-from s p (h .0) in
       let m = named-from (l .named) s (clockEndIn A s p) (h .1 .1 .0) in
       let k = waits-from s (waitEndIn A s p) (clockIn A s p) n (h .1 .1 .1) in
@@ -255,7 +226,7 @@ module _ (A : Width) (l : Limits) where
         let e = span-list (waitForm A) (faithful-wait A W) s (waitEndIn A s p) n in
         let c = k .waits-ok .0 in
         let o = each-from (isLt (cmpClock last (clockIn A s p)) ∷ []) (ascending cmpClock (clockIn A s p ∷ clocksIn (waits s (waitEndIn A s p) n))) (k .later-ok) in
-        each-to (waitTests s p last) (goodWaitsIn A l s (waitEndIn A s p) (clockIn A s p) n) (
+        each-to (waitTests A l s p last) (goodWaitsIn A l s (waitEndIn A s p) (clockIn A s p) n) (
           clock-to s p (omega arith) (record { normal-ok = c .normal-ok; few-ok = c .few-ok }),
           (
             o .0,
@@ -278,14 +249,6 @@ module _ (A : Width) (l : Limits) where
     waits-ok : WaitsFine [] (imageIn A s .waiting)
     entries-ok : All (λ e. T (goodEntry (imageIn A s) e)) (imageIn A s .entries)
 
-  abbrev contentsTests : List ℕ → List Bool
-  contentsTests s = leb 24 (length s) ∷ eqb (version s) 1 ∷ eqb (zeroField s) 0 ∷ eqb (totalLength s) (length s) ∷ leb (entriesCount s) (l .members) ∷ []
-
-  abbrev partsTests : List ℕ → List Bool
-  partsTests s =
-      goodContentsIn l s ∷ goodClockIn A l s 24 ∷ eqb (entriesStart s) (clockEndIn A s 24) ∷ goodRowsIn A l s (entriesStart s) 0 (entriesCount s)
-      ∷ eqb (waitsStart s) (endAfter (rowEndIn A) s (entriesStart s) (entriesCount s)) ∷ goodWaitsIn A l s (waitsStart s) [] (waitsCount s) ∷ []
-
   abbrev endTest : List ℕ → Bool
   endTest s = eqb (endAfter (waitEndIn A) s (waitsStart s) (waitsCount s)) (length s)
 
@@ -293,8 +256,8 @@ module _ (A : Width) (l : Limits) where
   unfolding checksIn goodPartsIn goodContentsIn imageIn
   tested-from s t =
       let h = each-from (goodPartsIn A l s ∷ []) (every (goodEntry (imageIn A s)) (imageIn A s .entries)) t in
-      let p = each-from (partsTests s) (endTest s) (h .0) in
-      let c = each-from (contentsTests s) (leb (waitsCount s) (l .waiting)) (p .0) in
+      let p = each-from (partsTests A l s) (endTest s) (h .0) in
+      let c = each-from (contentsTests l s) (leb (waitsCount s) (l .waiting)) (p .0) in
       record {
         readable-ok = record {
           long = leb→le 24 (length s) (c .0);
@@ -320,7 +283,7 @@ module _ (A : Width) (l : Limits) where
       let e0 = faithful-clock A W .span s 24 in
       let e1 = span-list (rowForm A) (faithful-row A W) s (entriesStart s) (entriesCount s) in
       let e2 = span-list (waitForm A) (faithful-wait A W) s (waitsStart s) (waitsCount s) in
-      let c : T (goodContentsIn l s) = each-to (contentsTests s) (leb (waitsCount s) (l .waiting)) (
+      let c : T (goodContentsIn l s) = each-to (contentsTests l s) (leb (waitsCount s) (l .waiting)) (
         le→leb 24 (length s) (r .long),
         (
           same (version s) 1 (r .version-ok),
@@ -330,7 +293,7 @@ module _ (A : Width) (l : Limits) where
           ),
         ),
       ) in
-      let p : T (goodPartsIn A l s) = each-to (partsTests s) (endTest s) (
+      let p : T (goodPartsIn A l s) = each-to (partsTests A l s) (endTest s) (
         c,
         (
           clock-to s 24 (omega arith) (h .clock-ok),
@@ -452,7 +415,7 @@ passed s e =
     let k : T (checks s) = rw (← (checks-is narrow full sound-narrow s)) t in
     let h = each-from (goodParts s ∷ []) (every (goodEntry (imageOf s)) (imageOf s .entries)) k in
     let p = each-from (partsTests narrow full s) (endTest narrow full s) (h .0) in
-    let c = each-from (contentsTests narrow full s) (leb (waitsCount s) 16) (p .0) in
+    let c = each-from (contentsTests full s) (leb (waitsCount s) 16) (p .0) in
     record {
       readable-ok = readable-from narrow s (g .0);
       few-members = leb→le (entriesCount s) 64 (c .1 .1 .1 .1 .0);

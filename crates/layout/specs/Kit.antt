@@ -1,26 +1,28 @@
 -- What code goes by: one turn along a list in bytes, from either end; the thing at a place; and what each test of a pass says.
 use mathlib.Core.Path.{_≡_, refl, sym, ap}
-use mathlib.Core.Bool.{true, _&&_}
+use mathlib.Core.Bool.{Bool, true}
 use mathlib.Core.List.{List, [], _∷_, _++_, append-assoc}
 use Prim.Native.Nat.{ℕ, suc, zero, _+_, _*_, _≤_, _<_}
 use native.Mathlib.Omega.{arith}
 use native.Mathlib.Nat.{mul-zero, mul-suc}
 use native.Mathlib.Numerals.{add-one}
-use lib.Dec.{leb, ltb}
+use lib.Dec.{T, leb→le, ltb→lt}
 use lib.ListN.{length, getD, take, drop, length-append}
 use lib.Seq.{take-at}
-use borrow.Author.Tests.{leb-true, le-leb, ltb-true}
+use borrow.Author.Tests.{le-leb}
 use Rattle.tables.specs.Table.{Normal}
+use Rattle.tables.specs.Truth.{and-l, and-r, and-i}
 use Rattle.tables.specs.Ascending.{isLt}
 use Rattle.dots.specs.Dot.{clocks}
 use Rattle.dots.specs.Clock.{Clock, cmpClock}
-use Rattle.dots.specs.Rising.{rising, both-left, both-right, rising-normal}
+use Rattle.dots.specs.Rising.{rising, rising-normal, true-from}
 use Rattle.replica.specs.Replica.{Entry, Wait}
+use Rattle.replica.specs.Limits.{full}
 use Rattle.layout.specs.Fields.{u32At, le32, length-le32, length-le64}
 use Rattle.layout.specs.Lists.{listAt, startsAt, endAfter, bytesOf}
 use Rattle.layout.specs.Clock.{narrow, dotIn, clockIn, clockEndIn, clockAt, clockEnd, encodeClockIn, encodeClock, encodeDots, encodeDot, encodeDotIn}
 use Rattle.layout.specs.Rows.{rowEndIn, rowAt, rowEnd, rowsAt, placesAt, encodeRowIn, encodeRow, waitEndIn, waitEnd, waitAtPlace, waitsAt, waitPlacesAt, encodeWaitIn, encodeWait, membersAt, encodeMembers}
-use Rattle.layout.specs.Good.{risingMembers, goodMembersIn, goodMembers, goodClockIn, goodClock, goodRowsIn, goodRows, goodWaitsIn, goodWaits}
+use Rattle.layout.specs.Good.{chain, namedTests, clockTests, rowTests, waitTests, risingMembers, goodMembersIn, goodMembers, goodClockIn, goodClock, goodRowsIn, goodRows, goodWaitsIn, goodWaits}
 use Rattle.layout.specs.Held.{Holds}
 use Rattle.layout.specs.Form.{length-listAt}
 
@@ -133,6 +135,19 @@ length-encodeWait w = simp (length-append, length-le32, length-encodeClock, leng
 
 -- ---- what the tests say
 
+-- each of the tests in a row
+abbrev pub Each : List Bool → Bool → Type 0
+Each [] b = T b
+Each (t ∷ ts) b = T t × Each ts b
+
+pub each-from : (ts : List Bool) (b : Bool) → T (chain ts b) → Each ts b
+each-from [] b h = h
+each-from (t ∷ ts) b h = (and-l t (chain ts b) h, each-from ts b (and-r t (chain ts b) h))
+
+pub each-to : (ts : List Bool) (b : Bool) → Each ts b → T (chain ts b)
+each-to [] b h = h
+each-to (t ∷ ts) b h = and-i t (chain ts b) (h .0) (each-to ts b (h .1))
+
 -- a clock that passes
 pub record Stands (s : List ℕ) (at : ℕ) : Type 0 where
   pub count : u32At s at ≤ 16
@@ -141,13 +156,9 @@ pub record Stands (s : List ℕ) (at : ℕ) : Type 0 where
 
 pub stands : (s : List ℕ) (at : ℕ) → goodClock s at ≡ true → Stands s at
 unfolding goodClockIn clockEndIn
-stands s at h =
-    let n = leb (u32At s at) 16 in
-    let e = leb (at + (4 + 12 * u32At s at)) (length s) in
-    let r = rising 0 (clockAt s at) in
-    let h1 = both-right (leb (at + 4) (length s)) (n && (e && r)) h in
-    let h2 = both-right n (e && r) h1 in
-    record { count = leb-true _ _ (both-left n (e && r) h1); room = leb-true _ _ (both-left e r h2); rises = both-right e r h2 }
+stands s at e =
+    let h = each-from (clockTests narrow full s at) (rising 0 (clockAt s at)) (rw e tt) in
+    record { count = leb→le (u32At s at) 16 (h .1 .0); room = leb→le (at + (4 + 12 * u32At s at)) (length s) (h .1 .1 .0); rises = true-from (rising 0 (clockAt s at)) (h .1 .1 .1) }
 
 pub stands-good : (s : List ℕ) (at : ℕ) → Stands s at → goodClock s at ≡ true
 unfolding goodClockIn clockEndIn
@@ -169,13 +180,10 @@ pub record Named (s : List ℕ) (q : ℕ) : Type 0 where
 
 pub named : (s : List ℕ) (q : ℕ) → goodMembers s q ≡ true → Named s q
 unfolding goodMembersIn
-named s q h =
-    let n = leb (u32At s q) 32 in
-    let e = leb (q + (4 + 4 * u32At s q)) (length s) in
+named s q e =
     let r = risingMembers 0 (membersAt s (q + 4) (u32At s q)) in
-    let h1 = both-right (leb (q + 4) (length s)) (n && (e && r)) h in
-    let h2 = both-right n (e && r) h1 in
-    record { few = leb-true _ _ (both-left n (e && r) h1); room = leb-true _ _ (both-left e r h2); rises = both-right e r h2 }
+    let h = each-from (namedTests 32 s q) r (rw e tt) in
+    record { few = leb→le (u32At s q) 32 (h .1 .0); room = leb→le (q + (4 + 4 * u32At s q)) (length s) (h .1 .1 .0); rises = true-from r (h .1 .1 .1) }
 
 -- an entry that passes, and the ones after it
 pub record EntryStands (s : List ℕ) (p low n : ℕ) : Type 0 where
@@ -187,16 +195,17 @@ pub record EntryStands (s : List ℕ) (p low n : ℕ) : Type 0 where
 
 pub first-row : (s : List ℕ) (p low n : ℕ) → goodRows s p low (suc n) ≡ true → EntryStands s p low n
 unfolding goodRowsIn rowEndIn
-first-row s p low n h =
-    let m = leb low (u32At s p) in
-    let g = goodClock s (p + 4) in
-    let f = ltb 0 (u32At s (p + 4)) in
+first-row s p low n e =
     let r = goodRows s (rowEnd s p) (u32At s p + 1) n in
-    let h1 = both-right (leb (p + 4) (length s)) (m && (g && (f && r))) h in
-    let h2 = both-right m (g && (f && r)) h1 in
-    let h3 = both-right g (f && r) h2 in
-    let k = both-left g (f && r) h2 in
-    record { above = leb-true _ _ (both-left m (g && (f && r)) h1); clock-good = k; held = ltb-true _ _ (both-left f r h3); inside = clock-room s (p + 4) (stands s (p + 4) k); others = both-right f r h3 }
+    let h = each-from (rowTests narrow full s p low) r (rw e tt) in
+    let g = true-from (goodClock s (p + 4)) (h .1 .1 .0) in
+    record {
+      above = leb→le low (u32At s p) (h .1 .0);
+      clock-good = g;
+      held = ltb→lt 0 (u32At s (p + 4)) (h .1 .1 .1 .0);
+      inside = clock-room s (p + 4) (stands s (p + 4) g);
+      others = true-from r (h .1 .1 .1 .1);
+    }
 
 -- a waiting remove that passes, and the ones after it
 pub record WaitStands (s : List ℕ) (p : ℕ) (last : Clock) (n : ℕ) : Type 0 where
@@ -208,15 +217,17 @@ pub record WaitStands (s : List ℕ) (p : ℕ) (last : Clock) (n : ℕ) : Type 0
 
 pub first-wait : (s : List ℕ) (p : ℕ) (last : Clock) (n : ℕ) → goodWaits s p last (suc n) ≡ true → WaitStands s p last n
 unfolding goodWaitsIn waitEndIn
-first-wait s p last n h =
-    let g = goodClock s p in
-    let o = isLt (cmpClock last (clockAt s p)) in
-    let m = goodMembers s (clockEnd s p) in
+first-wait s p last n e =
     let r = goodWaits s (waitEnd s p) (clockAt s p) n in
-    let h1 = both-right g (o && (m && r)) h in
-    let h2 = both-right o (m && r) h1 in
-    let k = both-left m r h2 in
-    record { clock-good = both-left g (o && (m && r)) h; later = both-left o (m && r) h1; members-good = k; inside = named s (clockEnd s p) k .room; others = both-right m r h2 }
+    let h = each-from (waitTests narrow full s p last) r (rw e tt) in
+    let m = true-from (goodMembers s (clockEnd s p)) (h .1 .1 .0) in
+    record {
+      clock-good = true-from (goodClock s p) (h .0);
+      later = true-from (isLt (cmpClock last (clockAt s p))) (h .1 .0);
+      members-good = m;
+      inside = named s (clockEnd s p) m .room;
+      others = true-from r (h .1 .1 .1);
+    }
 
 -- ---- at each place
 
