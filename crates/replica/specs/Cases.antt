@@ -157,10 +157,10 @@ traps =
     ∷ record { number = 4; given = Replicated (remove cover (6 ∷ 4 ∷ 6 ∷ []) after7) ∷ []; expected = Replicated (rep (dot 1 1 ∷ []) [] (wait cover (4 ∷ 5 ∷ 6 ∷ []) ∷ [])) ∷ [] }
     -- "An empty member list may wait": E, remove none by {2:1}
     ∷ record { number = 5; given = Replicated (remove (dot 2 1 ∷ []) [] E) ∷ []; expected = Replicated (rep (dot 1 1 ∷ []) (holding 5 (dot 1 1 ∷ []) ∷ []) (wait (dot 2 1 ∷ []) [] ∷ [])) ∷ [] }
-    -- "Search order: our members ascending, then theirs, then actors": 1.1 of 5 and 8 before 2.2 of 6 and 7; 3.3 of 5 and 5 is none
+    -- "Search order: our members ascending, then theirs, then actors": 1.1 of 5 and 8 comes before 2.2 of 6 and 7; 3.3 of 5 and 5 is none, nor is 1.1 of 5 by 1.2 of 7
     ∷ record {
       number = 6;
-      given = DoubleSpent (validateMerge (rep [] (five ∷ holding 6 (dot 2 2 ∷ []) ∷ []) []) (rep [] (holding 5 (dot 3 3 ∷ []) ∷ holding 7 (dot 2 2 ∷ []) ∷ eighth ∷ []) [])) ∷ [];
+      given = DoubleSpent (validateMerge (rep [] (five ∷ holding 6 (dot 2 2 ∷ []) ∷ []) []) (rep [] (holding 5 (dot 3 3 ∷ []) ∷ holding 7 (dot 1 2 ∷ dot 2 2 ∷ []) ∷ eighth ∷ []) [])) ∷ [];
       expected = DoubleSpent (some (record { dot = dot 1 1; our = 5; their = 8 })) ∷ [];
     }
     ∷ []

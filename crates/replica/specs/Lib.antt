@@ -17,6 +17,7 @@ pub mod Listed
 pub mod AddLaws
 pub mod RemoveLaws
 pub mod ResetLaws
+pub mod Determined
 pub mod History
 pub mod Validate
 pub mod ValidateLaws

@@ -99,7 +99,7 @@ unite-none (some ms) = refl
 abbrev pub Sets : Option (List ℕ) → Type 0
 Sets = Each (Normal memberSets)
 
-sets-ext : (x y : Option (List ℕ)) → Sets x → Sets y → isSome x ≡ isSome y → ((m : ℕ) → names x m ≡ names y m) → x ≡ y
+pub sets-ext : (x y : Option (List ℕ)) → Sets x → Sets y → isSome x ≡ isSome y → ((m : ℕ) → names x m ≡ names y m) → x ≡ y
 sets-ext none none f g p q = refl
 sets-ext none (some y) f g p q = absurd (false≢true p)
 sets-ext (some x) none f g p q = absurd (false≢true (sym p))
