@@ -1,7 +1,7 @@
 -- One turn of a loop over the first n elements of a list, or over those from a place on.
-use Prim.Native.Nat.{ℕ, suc, _+_, _≤_, _<_}
-use mathlib.Core.Path.{_≡_, refl, sym, _∙_}
-use mathlib.Core.Bool.{Bool}
+use Prim.Native.Nat.{ℕ, _+_, _≤_, _<_}
+use mathlib.Core.Path.{_≡_, refl, sym, ap, _∙_}
+use mathlib.Core.Bool.{Bool, true, false, not, _&&_}
 use mathlib.Core.List.{List, [], _∷_, map}
 use native.Mathlib.Omega.{arith}
 use native.Mathlib.Numerals.{add-one}
@@ -25,3 +25,15 @@ module _ {A : Type 0} where
 -- a test of a callee's answer b, which is s: what the branch says of b it says of s
 pub so : {b s v : Bool} → b ≡ s → b ≡ v → s ≡ v
 so e t = sym e ∙ t
+
+-- the same where the test is of `!b`
+pub but : {b s v : Bool} → b ≡ s → not b ≡ v → s ≡ not v
+but {b} e t = sym e ∙ twice b ∙ ap not t
+  where
+    twice : (b : Bool) → b ≡ not (not b)
+    twice true = refl
+    twice false = refl
+
+pub and-true : (b : Bool) → (b && true) ≡ b
+and-true true = refl
+and-true false = refl

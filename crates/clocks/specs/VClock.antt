@@ -113,3 +113,12 @@ vclock-normalised l h n =
 -- two normalised records with the same dots are the same
 pub same-dots : (c d : VClock) → length (c .dots) ≡ 16 → length (d .dots) ≡ 16 → normalised c ≡ true → normalised d ≡ true → dotsOf c ≡ dotsOf d → c ≡ d
 same-dots c d lc ld p q e = vclock-dots c lc p ∙ ap vclock e ∙ sym (vclock-dots d ld q)
+
+-- two clocks that are both normalised
+pub each : (c d : VClock) → every normalised (c ∷ d ∷ []) ≡ true → (normalised c ≡ true) × (normalised d ≡ true)
+each c d e =
+    let k = normalised d && true in
+    (both-left (normalised c) k e, both-left (normalised d) true (both-right (normalised c) k e))
+
+pub swapped : (c d : VClock) → every normalised (c ∷ d ∷ []) ≡ true → every normalised (d ∷ c ∷ []) ≡ true
+swapped c d e = let n = each c d e in rw (n .0, n .1)

@@ -27,6 +27,9 @@ coverOf (d ∷ v) cs = leb (said dots (actorOf d) cs) (d .counter) && coverOf v 
 pub count-same : (d : Dot) (c : Clock) → count (d ∷ c) (actorOf d) ≡ d .counter
 count-same d c = get-first clocks d c
 
+pub count-here : (d : Dot) (c : Clock) (a : ℕ) → actorOf d ≡ a → count (d ∷ c) a ≡ d .counter
+count-here d c a e = rw (← e) (count-same d c)
+
 pub count-other : (d : Dot) (c : Clock) (a : ℕ) → (a ≡ actorOf d → ⊥) → count (d ∷ c) a ≡ count c a
 count-other d c a n = go (compare a (actorOf d)) refl
   where
