@@ -1,3 +1,4 @@
+pub mod Lists
 pub mod Replica
 pub mod Rules
 pub mod OneDot

@@ -1,22 +1,22 @@
 -- Which limits an operation can break, and that what is granted is well-formed, limits included.
-use Prim.Native.Nat.{ℕ, suc, _+_, _≤_, Ordering, Ordering·lt, Ordering·eq, Ordering·gt}
-use mathlib.Core.Path.{_≡_, refl, sym, ap, subst}
+use Prim.Native.Nat.{ℕ, suc, _+_, _≤_}
+use mathlib.Core.Path.{_≡_, refl, ap, subst}
 use mathlib.Core.Logic.{_⊎_, inl, inr}
 use mathlib.Core.Bool.{Bool, true, false, _&&_, false≢true}
-use mathlib.Core.Option.{Option, none, some}
-use mathlib.Core.List.{List, [], _∷_, map}
+use mathlib.Core.Option.{none, some}
+use mathlib.Core.List.{List, [], _∷_}
 use native.Mathlib.Nat.{le-trans}
 use native.Mathlib.Omega.{arith}
 use lib.Dec.{T, leb, ltb, eqb, leb→le}
 use borrow.Author.Tests.{le-ltb, eqb-true}
-use lib.ListN.{length, length-map}
-use Rattle.tables.specs.Table.{All, Kind, every, any, none-any, all-map, get, isSome, all-sift, put, ins, union, pick}
+use lib.ListN.{length}
+use Rattle.tables.specs.Table.{All, every, any, none-any, all-map, get, isSome, all-sift, pick}
 use Rattle.tables.specs.Truth.{and-l, and-r}
-use Rattle.tables.specs.Zip.{zip}
 use Rattle.tables.specs.Walk.{length-collect}
 use Rattle.tables.specs.Refusal.{firstOf}
 use Rattle.dots.specs.declared.Dot.{Dot}
 use Rattle.dots.specs.Clock.{normal, merged, Clock, coversDot, covers, applied, resetBy}
+use Rattle.replica.specs.Lists.{length-zip, all-zip}
 use Rattle.replica.specs.Replica.{Entry, Wait, Replica, entry?, memberSets, waits}
 use Rattle.replica.specs.Rules.{unite, uncovered, joinWaits, setOf, removeFrom, settle, takes, add, remove, merge, rewait, resetWaits, reset}
 use Rattle.replica.specs.Limits.{Limits, limitsOf, broken, wellFormed, Within, unbroken-right, well-formed-from, well-formed-to}
@@ -24,28 +24,6 @@ use Rattle.replica.specs.History.{Add, Remove, apply, Event, Apply, Merg
 use Rattle.replica.specs.HistoryLaws.{fair, step-sound}
 
 -- ---- how long tables get
-
-length-ins : {K : Type 0} (cmp : K → K → Ordering) (k : K) (ks : List K) → length (ins cmp k ks) ≤ suc (length ks)
-length-ins cmp k [] = omega arith
-length-ins cmp k (j ∷ js) = go (cmp k j) (length-ins cmp k js)
-  where
-    go : (o : Ordering) → length (ins cmp k js) ≤ suc (length js) → length (put o k j js (ins cmp k js)) ≤ suc (suc (length js))
-    go Ordering·lt l = omega arith
-    go Ordering·eq l = omega arith
-    go Ordering·gt l = omega arith
-
-length-union : {K : Type 0} (cmp : K → K → Ordering) (xs ys : List K) → length (union cmp xs ys) ≤ length xs + length ys
-length-union cmp [] ys = omega arith
-length-union cmp (x ∷ xs) ys = let i = length-ins cmp x (union cmp xs ys) in let l = length-union cmp xs ys in omega arith
-
-length-zip : (S : Kind) (h : S .Key → S .Val → S .Val → S .Val) (xs ys : List (S .Row)) → length (zip S h xs ys) ≤ length xs + length ys
-unfolding zip
-length-zip S h xs ys =
-    let f : S .Key → Option (S .Row) = λ k. S .row k (h k (get S xs k) (get S ys k)) in
-    let c = length-collect f (union (S .cmp) (map (S .key) xs) (map (S .key) ys)) in
-    let u = length-union (S .cmp) (map (S .key) xs) (map (S .key) ys) in
-    let x = length-map xs (S .key) in let y = length-map ys (S .key) in
-    omega arith
 
 length-joined : (xs ys : List Wait) → length (joinWaits xs ys) ≤ length xs + length ys
 unfolding joinWaits
@@ -69,30 +47,6 @@ length-resets c (w ∷ ws) = go (resetBy c (w .clock)) (length-resets c ws)
     go (d ∷ x) l = let j = length-joined (record { clock = d ∷ x; members = w .members } ∷ []) (resetWaits c ws) in omega arith
 
 -- ---- the clocks of waiting removes
-
-all-ins : {K : Type 0} (P : K → Type 0) (cmp : K → K → Ordering) (k : K) (ks : List K) → P k → All P ks → All P (ins cmp k ks)
-all-ins P cmp k [] p h = (p, tt)
-all-ins {K} P cmp k (j ∷ js) p h = go (cmp k j) (all-ins P cmp k js p (h .1))
-  where
-    go : (o : Ordering) → All P (ins cmp k js) → All P (put o k j js (ins cmp k js))
-    go Ordering·lt l = (p, h)
-    go Ordering·eq l = h
-    go Ordering·gt l = (h .0, l)
-
-all-union : {K : Type 0} (P : K → Type 0) (cmp : K → K → Ordering) (xs ys : List K) → All P xs → All P ys → All P (union cmp xs ys)
-all-union P cmp [] ys h g = g
-all-union P cmp (x ∷ xs) ys h g = all-ins P cmp x (union cmp xs ys) (h .0) (all-union P cmp xs ys (h .1) g)
-
-all-keys : {R K : Type 0} (P : K → Type 0) (key : R → K) (rs : List R) → All (λ r. P (key r)) rs → All P (map key rs)
-all-keys P key [] h = tt
-all-keys P key (r ∷ rs) h = (h .0, all-keys P key rs (h .1))
-
--- what all keys of two tables have, those of the two zipped have
-all-zip : (S : Kind) (P : S .Key → Type 0) (h : S .Key → S .Val → S .Val → S .Val) (xs ys : List (S .Row)) → All (λ r. P (S .key r)) xs → All (λ r. P (S .key r)) ys → All (λ r. P (S .key r)) (zip S h xs ys)
-unfolding zip
-all-zip S P h xs ys p q =
-    all-sift P (λ r. P (S .key r)) (λ k. S .row k (h k (get S xs k) (get S ys k))) (union (S .cmp) (map (S .key) xs) (map (S .key) ys))
-    (λ k r t e. subst P (sym (S .key-row k (h k (get S xs k) (get S ys k)) r e)) t) (all-union P (S .cmp) (map (S .key) xs) (map (S .key) ys) (all-keys P (S .key) xs p) (all-keys P (S .key) ys q))
 
 abbrev pub Short : Limits → Wait → Type 0
 Short l w = length (w .clock) ≤ l .actors

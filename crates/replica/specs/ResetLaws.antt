@@ -8,12 +8,13 @@ use mathlib.Core.List.{List, [], _∷_}
 use native.Mathlib.Omega.{arith}
 use lib.Dec.{T, isEq, leb, ltb, eqb, leb·suc-zero}
 use borrow.Author.Tests.{leb-true, leb-false, lt-ltb, le-ltb}
-use Rattle.tables.specs.Truth.{and-l, or-l, or-r, or-e}
+use Rattle.tables.specs.Truth.{and-l}
 use Rattle.tables.specs.Table.{All, get, Normal, pick, isSome, any, hit, at-all, normal-sift, get-sift}
 use Rattle.dots.specs.declared.Dot.{Dot}
 use Rattle.dots.specs.Dot.{clocks}
 use Rattle.dots.specs.Clock.{Clock, count, filled, resetBy, cmpClock, clock-order}
 use Rattle.dots.specs.ClockLaws.{reset-normal, reset-count, reset-dot}
+use Rattle.replica.specs.Lists.{any-same, any-more}
 use Rattle.replica.specs.Replica.{Wait, Replica, entry?, entries, waits, memberSets, membersOf, entry, waitAt, names, holds, kills, killed}
 use Rattle.replica.specs.Rules.{rewait, resetWaits, reset}
 use Rattle.replica.specs.WellFormed.{Fine, sound, sound-fine, fine-sound}
@@ -106,14 +107,6 @@ resets-kills c (w ∷ ws) m a n = go (resetBy c (w .clock)) (resets-kills c ws m
         joined-kills (this d x (w .members) ∷ []) (resetWaits c ws) (one-normal (this d x (w .members))) (resets-normal c ws) m a (suc n)
         ∙ ap₂ _||_ (or-false (kills m a (suc n) (this d x (w .members)))) l
 
-any-same : {R : Type 0} (P : R → Type 0) (p q : R → Bool) (rs : List R) → ((r : R) → P r → p r ≡ q r) → All P rs → any p rs ≡ any q rs
-any-same P p q [] f h = refl
-any-same P p q (r ∷ rs) f h = ap₂ _||_ (f r (h .0)) (any-same P p q rs f (h .1))
-
-any-first : {R : Type 0} (p q : R → Bool) (rs : List R) → T (any (λ r. p r && q r) rs) → T (any p rs)
-any-first p q [] t = t
-any-first p q (r ∷ rs) t = or-e (p r && q r) (any (λ r. p r && q r) rs) t (λ u. or-l (p r) (any p rs) (and-l (p r) (q r) u)) (λ u. or-r (p r) (any p rs) (any-first p q rs u))
-
 reset-covers : (x y n : ℕ) → leb (suc n) (pick (leb x y) 0 x) ≡ (leb (suc n) x && ltb y x)
 reset-covers x y n = go (leb x y) refl
   where
@@ -186,7 +179,7 @@ reset-fine c A h = record {
 }
   where
     fewer : (m a n : ℕ) → T (any (λ w. kills m a (suc n) w && ltb (count c a) (count (w .clock) a)) (A .waiting)) → T (killed A m a (suc n))
-    fewer m a n t = any-first (kills m a (suc n)) (λ w. ltb (count c a) (count (w .clock) a)) (A .waiting) t
+    fewer m a n t = any-more (λ w. kills m a (suc n) w && ltb (count c a) (count (w .clock) a)) (kills m a (suc n)) (A .waiting) (λ w u. and-l (kills m a (suc n) w) (ltb (count c a) (count (w .clock) a)) u) t
 
 -- ---- reset
 

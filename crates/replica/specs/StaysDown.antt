@@ -7,7 +7,7 @@ use mathlib.Core.List.{List, [], _∷_}
 use native.Mathlib.Nat.{not-suc-le-zero}
 use native.Mathlib.Omega.{arith}
 use lib.Dec.{T, leb, ltb, eqb, leb→le, le→leb, lt→ltb, eqb→eq}
-use borrow.Author.Tests.{leb-false, ne-eqb, lt-leb}
+use borrow.Author.Tests.{leb-false, ne-eqb, lt-leb, not-true}
 use Rattle.tables.specs.Truth.{table, imp, mp, and-l, and-r, and-i, or-l, or-r, or-e}
 use Rattle.tables.specs.Table.{get, pick, any, every}
 use Rattle.tables.specs.Zip.{zip, by-lt}
@@ -15,6 +15,8 @@ use Rattle.dots.specs.declared.Dot.{Dot}
 use Rattle.dots.specs.Dot.{actorOf, dot}
 use Rattle.dots.specs.Clock.{Clock, count, normal, covers, merged, resetBy}
 use Rattle.dots.specs.ClockLaws.{covers-le}
+use Rattle.dots.specs.Rising.{true-from}
+use Rattle.replica.specs.Lists.{any-more}
 use Rattle.replica.specs.Replica.{Wait, Replica, memberSets, isIn, holds, seen, kills, killed}
 use Rattle.replica.specs.Rules.{setOf, unite, joinWaits, removeFrom, removesFrom, settle, add, remove, stay, stayAt, staying, merge, rewait, resetWaits, reset}
 use Rattle.replica.specs.History.{Add, Remove, apply, Event, Apply, MergeWith, MergeInto, Reset, step, run, judged}
@@ -46,9 +48,6 @@ seen-le : (A B : Replica) (a n : ℕ) → count (A .clock) a ≤ count (B .clock
 unfolding seen
 seen-le A B a n l t = let k = leb→le n (count (A .clock) a) t in le→leb n (count (B .clock) a) (omega arith)
 
-and-absent : (x y : Bool) → x ≡ false → (x && y) ≡ false
-and-absent x y e = rw e
-
 -- what an add leaves of a dot that is gone, by whether the member takes the new dot, which is another
 add-absent : (x y h s k : Bool) → h ≡ false → T (s || k) → (T s → T x → y ≡ false) → (pick x y h && not k) ≡ false
 add-absent x y h s true e t f = and-false (pick x y h)
@@ -59,14 +58,6 @@ add-absent x y h false false e t f = absurd t
 -- and what a merge does
 merge-absent : (hA hB sA sB kA kB : Bool) → T (imp (not hA && (sA || kA)) (not ((hA && hB || (hA && not sB || hB && not sA)) && not (kA || kB))))
 merge-absent = table 6 (λ hA hB sA sB kA kB. imp (not hA && (sA || kA)) (not ((hA && hB || (hA && not sB || hB && not sA)) && not (kA || kB)))) tt
-
-any-more : {R : Type 0} (p q : R → Bool) (rs : List R) → ((r : R) → T (p r) → T (q r)) → T (any p rs) → T (any q rs)
-any-more p q [] f t = t
-any-more p q (r ∷ rs) f t = or-e (p r) (any p rs) t (λ u. or-l (q r) (any q rs) (f r u)) (λ u. or-r (q r) (any q rs) (any-more p q rs f u))
-
-is-false : (b : Bool) → T (not b) → b ≡ false
-is-false true t = absurd t
-is-false false t = refl
 
 module _ (A : Replica) (s : T (sound A)) (m a n : ℕ) (g : Gone A m a (suc n)) where
   -- V has grown, and what a waiting remove covered is still covered
@@ -99,7 +90,7 @@ module _ (A : Replica) (s : T (sound A)) (m a n : ℕ) (g : Gone A m a (suc n)) 
   remove-gone : (c : Clock) (ms : List ℕ) → T (normal c) → Gone (remove c ms A) m a (suc n)
   remove-gone c ms k = let r = removed c ms A k s in
       record {
-        absent = r .holds-is m a n ∙ and-absent (holds A m a (suc n)) (not (listed ms m && leb (suc n) (count c a))) (g .absent);
+        absent = r .holds-is m a n ∙ ap (λ (b : Bool). b && not (listed ms m && leb (suc n) (count c a))) (g .absent);
         known = still (remove c ms A) (rw (r .clock-is) (omega arith)) (λ t. or-l (killed (remove c ms A) m a (suc n)) (seen (remove c ms A) a (suc n))
             (rw (r .killed-is m a (suc n)) (or-l (killed A m a (suc n)) (not (covers (A .clock) c) && (listed ms m && leb (suc n) (count c a))) t)));
       }
@@ -112,8 +103,8 @@ module _ (A : Replica) (s : T (sound A)) (m a n : ℕ) (g : Gone A m a (suc n)) 
       let hA = holds A m a (suc n) in let hB = holds B m a (suc n) in let sA = seen A a (suc n) in let sB = seen B a (suc n) in
       let kA = killed A m a (suc n) in let kB = killed B m a (suc n) in
       record {
-        absent = r .holds-is m a n ∙ is-false (stay A B m a (suc n) && not (kA || kB))
-            (mp (not hA && (sA || kA)) (not (stay A B m a (suc n) && not (kA || kB))) (merge-absent hA hB sA sB kA kB) (and-i (not hA) (sA || kA) (rw (g .absent) tt) (g .known)));
+        absent = r .holds-is m a n ∙ not-true (stay A B m a (suc n) && not (kA || kB)) (true-from (not (stay A B m a (suc n) && not (kA || kB)))
+            (mp (not hA && (sA || kA)) (not (stay A B m a (suc n) && not (kA || kB))) (merge-absent hA hB sA sB kA kB) (and-i (not hA) (sA || kA) (rw (g .absent) tt) (g .known))));
         known = still (merge A B) (omega arith) (λ k. merge-killed A B s t m a (suc n) (or-l kA kB k));
       }
 
@@ -121,7 +112,7 @@ module _ (A : Replica) (s : T (sound A)) (m a n : ℕ) (g : Gone A m a (suc n)) 
   unfolding seen killed
   reset-gone c f = let r = was-reset c A s in
       record {
-        absent = r .holds-is m a n ∙ and-absent (holds A m a (suc n)) (not (leb (suc n) (count c a))) (g .absent);
+        absent = r .holds-is m a n ∙ ap (λ (b : Bool). b && not (leb (suc n) (count c a))) (g .absent);
         known = or-e (seen A a (suc n)) (killed A m a (suc n)) (g .known)
             (λ t. or-l (seen (reset c A) a (suc n)) (killed (reset c A) m a (suc n)) (rw (r .clock-is a, lt-leb (count (A .clock) a) (count c a) (let k = leb→le (suc n) (count (A .clock) a) t in let l = low in omega arith)) t))
             (λ t. or-r (seen (reset c A) a (suc n)) (killed (reset c A) m a (suc n)) (rw (r .killed-is m a n) (any-more (kills m a (suc n)) (λ w. kills m a (suc n) w && ltb (count c a) (count (w .clock) a)) (A .waiting) more t)));
@@ -158,10 +149,6 @@ stays-gone grants (e ∷ later) A f s m a n z g =
     (either (λ B. T (sound B)) (grants e A) (step e A) A (step-sound e A now s) s) m a n (both .1)
     (either (λ B. Gone B m a (suc n)) (grants e A) (step e A) A (step-gone A s m a n g e now (both .0)) g)
 
-is-true : (b : Bool) → T b → b ≡ true
-is-true true t = refl
-is-true false t = absurd t
-
 -- ---- the remove that takes a member down
 
 remove-takes : (c : Clock) (ms : List ℕ) (A : Replica) → T (normal c) → T (sound A) → (m a n : ℕ) → T (listed ms m) → suc n ≤ count c a → Gone (remove c ms A) m a (suc n)
@@ -172,7 +159,7 @@ remove-takes c ms A k s m a n t l = record { absent = r .holds-is m a n ∙ ap (
     r = removed c ms A k s
 
     here : (listed ms m && leb (suc n) (count c a)) ≡ true
-    here = is-true (listed ms m && leb (suc n) (count c a)) (and-i (listed ms m) (leb (suc n) (count c a)) t (le→leb (suc n) (count c a) l))
+    here = true-from (listed ms m && leb (suc n) (count c a)) (and-i (listed ms m) (leb (suc n) (count c a)) t (le→leb (suc n) (count c a) l))
 
     go : (b : Bool) → covers (A .clock) c ≡ b → T (seen (remove c ms A) a (suc n) || killed (remove c ms A) m a (suc n))
     go true e =

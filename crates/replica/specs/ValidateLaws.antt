@@ -2,7 +2,7 @@
 use Prim.Native.Nat.{ℕ, suc, _+_, _≤_}
 use mathlib.Core.Path.{_≡_, refl, sym, ap, ap₂, _∙_, subst}
 use mathlib.Core.Logic.{_↔_}
-use mathlib.Core.Bool.{Bool, true, false, not, _||_, or-assoc, false≢true}
+use mathlib.Core.Bool.{Bool, true, false, not, _||_, false≢true}
 use mathlib.Core.Option.{Option, none, some, Option·map}
 use mathlib.Core.List.{List, [], _∷_, _++_, map}
 use lib.Dec.{T, T-not, not-T, eqb, ltb, eqb→eq, eqb·zero-suc}
@@ -13,6 +13,7 @@ use Rattle.dots.specs.declared.Dot.{Dot}
 use Rattle.dots.specs.declared.DotRange.{DotRange}
 use Rattle.dots.specs.Dot.{clocks, counterOf, actorOf}
 use Rattle.dots.specs.Clock.{count, gap}
+use Rattle.replica.specs.Lists.{any-append, any-mapped, all-append, all-mapped, all-there}
 use Rattle.replica.specs.Replica.{Entry, Replica, entries, clockOf, entry, holdsIn, holds}
 use Rattle.replica.specs.WellFormed.{sound, Fine, sound-fine}
 use Rattle.replica.specs.History.{Add}
@@ -54,14 +55,6 @@ first-none p (y ∷ xs) e = go (p y) e (first-none p xs)
     go false e l = l e
 
 -- ---- the triples, one by one
-
-any-append : {X : Type 0} (p : X → Bool) (xs ys : List X) → any p (xs ++ ys) ≡ (any p xs || any p ys)
-any-append p [] ys = refl
-any-append p (x ∷ xs) ys = ap (λ (b : Bool). p x || b) (any-append p xs ys) ∙ sym (or-assoc (p x) (any p xs) (any p ys))
-
-any-mapped : {X Y : Type 0} (p : Y → Bool) (f : X → Y) (xs : List X) → any p (map f xs) ≡ any (λ x. p (f x)) xs
-any-mapped p f [] = refl
-any-mapped p f (x ∷ xs) = ap (λ (b : Bool). p (f x) || b) (any-mapped p f xs)
 
 abbrev spentBy : Entry → Entry → Dot → Bool
 spentBy o t d = reportable (record { our = o; their = t; dot = d })
@@ -121,21 +114,9 @@ none-spent A B e = go (firstSpent A B) refl e
     go none u e = none-first A B u
     go (some t) u e = absurd (false≢true (sym (ap isSome e)))
 
-all-append : {X : Type 0} (P : X → Type 0) (xs ys : List X) → All P xs → All P ys → All P (xs ++ ys)
-all-append P [] ys h g = g
-all-append P (x ∷ xs) ys h g = (h .0, all-append P xs ys (h .1) g)
-
 -- a triple of rows under their keys
 abbrev Stands : Replica → Replica → Triple → Type 0
 Stands A B t = (rowAt entries (A .entries) (t .our .member) ≡ some (t .our)) × (rowAt entries (B .entries) (t .their .member) ≡ some (t .their)) × (rowAt clocks (t .our .clock) (actorOf (t .dot)) ≡ some (t .dot))
-
-all-mapped : {X Y : Type 0} (P : Y → Type 0) (f : X → Y) (xs : List X) → All (λ x. P (f x)) xs → All P (map f xs)
-all-mapped P f [] h = tt
-all-mapped P f (x ∷ xs) h = (h .0, all-mapped P f xs (h .1))
-
-all-there : {X : Type 0} (P : X → Type 0) (xs : List X) (x : X) (ys : List X) → All P (xs ++ (x ∷ ys)) → P x
-all-there P [] x ys h = h .0
-all-there P (z ∷ xs) x ys h = all-there P xs x ys (h .1)
 
 module _ (A B : Replica) where
   abbrev Ours : Entry → Type 0
