@@ -1,10 +1,10 @@
 -- What the calls on dots answer, under document 01's words.
-use Prim.Native.Nat.{ℕ, _+_, _≤_, _<_, Ordering, Ordering·lt, Ordering·eq, Ordering·gt}
+use Prim.Native.Nat.{_+_, _≤_, _<_, Ordering, Ordering·lt, Ordering·eq, Ordering·gt}
 use mathlib.Core.Path.{_≡_, refl, sym, ap, _∙_}
 use mathlib.Core.Bool.{Bool, true, false, _&&_, false≢true}
 use native.Mathlib.Omega.{arith}
 use lib.Dec.{leb, eqb, isLe}
-use borrow.Author.Tests.{leb-true, leb-false, eqb-true, eqb-false, eq-eqb}
+use borrow.Author.Tests.{leb-true, leb-false, eqb-true, eq-eqb}
 use Rattle.tables.specs.Order.{turn}
 use Rattle.tables.specs.Table.{pick}
 use Rattle.dots.specs.declared.Dot.{Dot}

@@ -1,5 +1,5 @@
 -- A clock as the list of its dots, and document 01's operations on it.
-use Prim.Native.Nat.{ℕ, zero, _+_, compare, max, min, Ordering}
+use Prim.Native.Nat.{ℕ, _+_, compare, max, min, Ordering}
 use mathlib.Core.Bool.{Bool, true, false, _&&_}
 use mathlib.Core.Option.{Option, none, some}
 use mathlib.Core.List.{List, [], _∷_, map}

@@ -2,10 +2,9 @@
 use Prim.Native.Nat.{ℕ, _≤_, _<_, compare, Ordering, Ordering·lt, Ordering·eq, Ordering·gt}
 use mathlib.Core.Path.{_≡_, refl, sym, _∙_}
 use mathlib.Core.Bool.{Bool, true, false, _&&_}
-use mathlib.Core.Option.{none}
 use mathlib.Core.List.{[], _∷_, map}
 use native.Mathlib.Omega.{arith}
-use lib.Dec.{T, leb, ltb, eqb, leb→le, le→leb, ltb→lt}
+use lib.Dec.{T, leb, eqb, leb→le, le→leb, ltb→lt}
 use borrow.Author.Tests.{eqb-true, eqb-false}
 use Rattle.tables.specs.Order.{nat-order, lt-nat}
 use Rattle.tables.specs.Truth.{and-l, and-r, and-i, bool-ext}

@@ -1,7 +1,7 @@
 -- A dot is one event of one actor. The table of dots: the key is the actor, the value its counter, and a missing actor counts 0.
 use Prim.Native.Nat.{ℕ, zero, suc, compare, Ordering}
 use mathlib.Core.Path.{_≡_, refl, sym, ap, ap₂, _∙_}
-use mathlib.Core.Bool.{Bool, true, false, false≢true}
+use mathlib.Core.Bool.{false≢true}
 use mathlib.Core.Option.{Option, none, some}
 use Rattle.tables.specs.Order.{Order, next, nat-order, turn-next, next-eq, next-trans}
 use Rattle.tables.specs.Table.{Kind, isSome}

@@ -1,5 +1,5 @@
 -- A clock's rule as a loop tests it, from the lowest actor allowed on; and that it is the rule.
-use Prim.Native.Nat.{ℕ, zero, _+_, _≤_, _<_, compare}
+use Prim.Native.Nat.{ℕ, _+_, _≤_, _<_, compare}
 use mathlib.Core.Path.{_≡_, refl}
 use mathlib.Core.Bool.{Bool, true, false, _&&_, false≢true}
 use mathlib.Core.List.{[], _∷_, map}

@@ -11,7 +11,7 @@ use Rattle.dots.specs.Dot.{clocks}
 use Rattle.dots.specs.Clock.{Clock, count, covers, merged}
 use Rattle.dots.specs.ClockLaws.{merged-count, merged-normal, dots-ext}
 use Rattle.replica.specs.Replica.{Entry, Replica, entries, waits, entry, waitAt, holds, seen, killed}
-use Rattle.replica.specs.Rules.{unite, joinWaits, settle, stay, stayAt, staying, together, merge}
+use Rattle.replica.specs.Rules.{unite, settle, stay, stayAt, staying, together, merge}
 use Rattle.replica.specs.OneDot.{keepOne, keep-one}
 use Rattle.replica.specs.Waits.{joined-get, joined-normal, joined-kills, unite-good}
 use Rattle.replica.specs.Removes.{FineEntries}

@@ -1,7 +1,7 @@
 -- "Limits are judged on the finished result, never on a step between": a judge is any function that gives a finished replica a number, 0 where it
 -- grants it. `broken` of Limits.antt is one.
 use Prim.Native.Nat.{ℕ, zero, suc}
-use mathlib.Core.Path.{_≡_, refl, sym}
+use mathlib.Core.Path.{_≡_, refl}
 use native.Mathlib.Omega.{arith}
 use Rattle.replica.specs.Replica.{Replica}
 use Rattle.replica.specs.Rules.{merge}

@@ -1,13 +1,12 @@
 -- The kill number of a member and an actor: up to which counter waiting removes that name the member cover the actor's dots.
-use Prim.Native.Nat.{ℕ, zero, suc, _≤_, _<_, max, compare}
-use mathlib.Core.Path.{_≡_, refl, sym, ap, ap₂, _∙_}
+use Prim.Native.Nat.{ℕ, suc, _<_, max}
+use mathlib.Core.Path.{_≡_, refl, sym, ap₂, _∙_}
 use mathlib.Core.Bool.{Bool, true, false, not, _&&_, _||_}
 use mathlib.Core.List.{List, [], _∷_}
 use native.Mathlib.Omega.{arith}
 use lib.Dec.{leb, ltb}
 use borrow.Author.Tests.{ltb-true, ltb-false, lt-ltb, le-ltb, lt-leb}
 use Rattle.tables.specs.Table.{get, pick, any, every, All}
-use Rattle.dots.specs.declared.Dot.{Dot}
 use Rattle.dots.specs.Dot.{actorOf}
 use Rattle.dots.specs.Clock.{Clock, count}
 use Rattle.dots.specs.ClockLaws.{leb-max}

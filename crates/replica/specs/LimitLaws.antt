@@ -20,6 +20,7 @@ use Rattle.replica.specs.Lists.{length-zip, all-zip}
 use Rattle.replica.specs.Replica.{Entry, Wait, Replica, entry?, memberSets, waits}
 use Rattle.replica.specs.Rules.{unite, uncovered, joinWaits, setOf, removeFrom, settle, takes, add, remove, merge, rewait, resetWaits, reset}
 use Rattle.replica.specs.Limits.{Limits, limitsOf, broken, wellFormed, Within, unbroken-right, well-formed-from, well-formed-to}
+use Rattle.replica.specs.Judge.{granted, mergeBy, granted-is}
 use Rattle.replica.specs.History.{Add, Remove, apply, Event, Apply, MergeWith, MergeInto, Reset, step, judged}
 use Rattle.replica.specs.HistoryLaws.{fair, step-sound}
 
@@ -203,6 +204,11 @@ pub step-well-formed : (l : Limits) (e : Event) (A : Replica) → T (fits l e) �
 step-well-formed l e A f w g =
     let a = well-formed-from l A w in
     well-formed-to l (step e A) (step-sound e A (fits-fair l e f) (a .0)) g (step-short l e A f (a .2))
+
+-- so a granted merge of well-formed replicas is well-formed
+pub merge-well-formed : (l : Limits) (A B M : Replica) → T (wellFormed l A) → T (wellFormed l B) → mergeBy (broken l) A B ≡ granted M → T (wellFormed l M)
+unfolding mergeBy step fits
+merge-well-formed l A B M a b e = let g = granted-is (broken l) (merge A B) M e in rw (g .0) (step-well-formed l (MergeWith B) A b a (g .1))
 
 -- the judge of the limits, and a history under it: every replica on the way is well-formed
 unfoldable pub withinLimits : Limits → Event → Replica → Bool

@@ -1,21 +1,18 @@
 -- The laws of merge. Replicas are any that pass the test `sound` (well-formed, limits aside), settled or not; a judge is any judge of the finished
 -- replica. Nothing leans on "a dot belongs to one member".
-use Prim.Native.Nat.{ℕ, suc, max, _≤_}
+use Prim.Native.Nat.{ℕ, suc, max}
 use mathlib.Core.Path.{_≡_, sym, ap, _∙_}
 use mathlib.Core.Logic.{_↔_}
-use mathlib.Core.Bool.{true, _||_, false≢true}
+use mathlib.Core.Bool.{true, _||_}
 use mathlib.Core.Option.{none}
 use mathlib.Core.List.{[]}
 use native.Mathlib.Omega.{arith}
 use lib.Dec.{T, eqb→eq}
-use lib.ListN.{length}
-use Rattle.tables.specs.Table.{All, pick, isSome, by-row, key-at, all-at, at-all}
+use Rattle.tables.specs.Table.{pick}
 use Rattle.dots.specs.Clock.{Clock, count, covers}
-use Rattle.replica.specs.Replica.{Replica, waits, membersOf, entry, waitAt, isIn, holds, seen, killed}
+use Rattle.replica.specs.Replica.{Replica, entry, waitAt, isIn, holds, seen, killed}
 use Rattle.replica.specs.Rules.{unite, stay, together, merge, settled}
-use Rattle.replica.specs.Waits.{Each, unite-each, kept-some}
 use Rattle.replica.specs.WellFormed.{sound, sound-fine, fine-sound, fine-ext}
-use Rattle.replica.specs.Limits.{Limits, broken, wellFormed, well-formed-from, well-formed-to}
 use Rattle.replica.specs.Judge.{granted, judge, mergeBy, granted-is}
 use Rattle.replica.specs.Settle.{settle-settled}
 use Rattle.replica.specs.Merged.{Merged, live, killed-kept, only-one, merge-swap, merge-self, merge-grouped}
@@ -124,33 +121,6 @@ module _ (j : Replica → ℕ) where
   pub granted-members : (A B M : Replica) → T (sound A) → T (sound B) → mergeBy j A B ≡ granted M → (m : ℕ) → T (isIn M m) ↔ Kept A B m
   unfolding mergeBy
   granted-members A B M s t g m = rw ((granted-is j (merge A B) M g) .0) (merge-members A B s t m)
-
--- ---- limits
-
--- a granted merge of well-formed replicas is well-formed, the actors of waiting clocks included
-module _ (l : Limits) (A B : Replica) (a : T (wellFormed l A)) (b : T (wellFormed l B)) where
-  abbrev Short : Clock → Type 0
-  Short c = length c ≤ l .actors
-
-  short-waits : All (λ w. Short (w .clock)) ((merge A B) .waiting)
-  short-waits = at-all waits (λ w. Short (w .clock)) ((merge A B) .waiting) (r .fine .waiting-ok)
-      (λ w e p. let c = w .clock in
-      unite-each (λ ms. Short c) (λ x y p q. p) (waitAt A c) (waitAt B c) (short A ((well-formed-from l A a) .2) c) (short B ((well-formed-from l B b) .2) c) (w .members)
-      (kept-some (covers ((merge A B) .clock) c) (unite (waitAt A c) (waitAt B c)) (w .members) (sym (r .wait-is c) ∙ ap membersOf e)))
-    where
-      r : Merged A B (merge A B)
-      r = merge-says A B ((well-formed-from l A a) .0) ((well-formed-from l B b) .0)
-
-      short : (X : Replica) → All (λ w. Short (w .clock)) (X .waiting) → (c : Clock) → Each (λ ms. Short c) (waitAt X c)
-      short X h c = by-row waits (Each (λ ms. Short c)) (X .waiting) c (λ ms q. absurd (false≢true (ap isSome q)))
-          (λ w e ms q. rw (key-at waits (X .waiting) c w e) (all-at waits (λ w. Short (w .clock)) (X .waiting) h c w e))
-
-  pub merge-well-formed : broken l (merge A B) ≡ 0 → T (wellFormed l (merge A B))
-  merge-well-formed g = well-formed-to l (merge A B) (merge-sound A B ((well-formed-from l A a) .0) ((well-formed-from l B b) .0)) g short-waits
-
-  pub granted-well-formed : (M : Replica) → mergeBy (broken l) A B ≡ granted M → T (wellFormed l M)
-  unfolding mergeBy
-  granted-well-formed M e = let g = granted-is (broken l) (merge A B) M e in rw (g .0) (merge-well-formed (g .1))
 
 -- ---- the outside definition
 

@@ -1,8 +1,8 @@
 -- What becomes of one dot of one member. In Booleans: `h` says that a side holds it, `s` that its clock has seen it, `k` that a waiting remove that
 -- names the member covers it. In numbers: `e` and `f` are the counters that two entries have for an actor, `v` and `w` those of the clocks.
-use Prim.Native.Nat.{ℕ, zero, suc, _≤_, _<_}
-use mathlib.Core.Path.{_≡_, refl, sym, ap, ap₂, _∙_}
-use mathlib.Core.Bool.{Bool, true, false, not, _&&_, _||_, false≢true, Bool·beq}
+use Prim.Native.Nat.{ℕ, suc, _≤_, _<_}
+use mathlib.Core.Path.{_≡_, refl, ap, ap₂, _∙_}
+use mathlib.Core.Bool.{Bool, true, false, not, _&&_, _||_, Bool·beq}
 use mathlib.Core.List.{List, [], _∷_}
 use native.Mathlib.Omega.{arith}
 use lib.Dec.{T, leb, eqb, eqb·zero-suc}

@@ -9,7 +9,7 @@ use Rattle.tables.specs.Table.{get, Normal, Proper, pick, pick-both, any, norma
 use Rattle.dots.specs.Dot.{clocks}
 use Rattle.dots.specs.Clock.{Clock, count, resetBy}
 use Rattle.dots.specs.ClockLaws.{reset-normal, reset-dot}
-use Rattle.replica.specs.Replica.{Entry, Wait, Replica, entry?, entries, memberSets, holdsIn, kills}
+use Rattle.replica.specs.Replica.{Entry, Wait, entry?, entries, memberSets, holdsIn, kills}
 use Rattle.replica.specs.Rules.{removeFrom, removesFrom}
 
 -- entries ascending by member, each with a normalised clock that is not empty

@@ -1,12 +1,12 @@
 -- What a replica is, and what it says of a member and a dot.
-use Prim.Native.Nat.{ℕ, compare}
+use Prim.Native.Nat.{ℕ}
 use mathlib.Core.Path.{_≡_, refl, ap}
-use mathlib.Core.Bool.{Bool, true, false, _&&_, _||_, false≢true}
+use mathlib.Core.Bool.{Bool, true, false, _&&_, false≢true}
 use mathlib.Core.Option.{Option, none, some}
 use mathlib.Core.List.{List, [], _∷_}
 use lib.Dec.{leb, eqb}
 use Rattle.tables.specs.Table.{Kind, get, rowAt, isSome, any}
-use Rattle.tables.specs.Zip.{Rows, kind, zip}
+use Rattle.tables.specs.Zip.{Rows, kind}
 use Rattle.dots.specs.Clock.{Clock, count, cmpClock, clock-order}
 
 -- "A replica has a clock V, entries (member with clock) and waiting removes (clock with member set, the Rust's `deferred`)."

@@ -1,21 +1,21 @@
 -- The public report "An Optimized Conflict-free Replicated Set" (INRIA RR-8083, 2012): its optimized set and that set's merge, in its words. Where
 -- neither side has waiting removes, the rule for merge gives the report's.
-use Prim.Native.Nat.{ℕ, zero, suc, _≤_, _<_, max}
-use mathlib.Core.Path.{_≡_, refl, sym, ap, _∙_}
+use Prim.Native.Nat.{ℕ, zero, suc, _<_, max}
+use mathlib.Core.Path.{_≡_, sym, ap, _∙_}
 use mathlib.Core.Logic.{_↔_, _⊎_, inl, inr}
-use mathlib.Core.Bool.{Bool, true, false, false≢true}
-use mathlib.Core.Option.{Option, none, some}
-use mathlib.Core.List.{List, []}
+use mathlib.Core.Bool.{false≢true}
+use mathlib.Core.Option.{none}
+use mathlib.Core.List.{[]}
 use native.Mathlib.Omega.{arith}
 use native.Mathlib.Nat.{not-suc-le-zero}
-use lib.Dec.{T, eqb, eqb→eq}
+use lib.Dec.{T, eqb→eq}
 use borrow.Author.Tests.{eq-eqb}
-use Rattle.tables.specs.Table.{Normal, pick-both, ext, isSome}
+use Rattle.tables.specs.Table.{pick-both, ext, isSome}
 use Rattle.dots.specs.Clock.{Clock, count, covers}
-use Rattle.replica.specs.Replica.{Wait, Replica, waits, entry, waitAt, holds}
-use Rattle.replica.specs.Rules.{unite, merge}
+use Rattle.replica.specs.Replica.{Replica, waits, entry, waitAt, holds}
+use Rattle.replica.specs.Rules.{unite}
 use Rattle.replica.specs.WellFormed.{Fine}
-use Rattle.replica.specs.Merged.{Merged, live}
+use Rattle.replica.specs.Merged.{Merged}
 use Rattle.replica.specs.Membership.{Clear, Brings, live-from, live-to}
 
 -- ---- the report's set

@@ -1,14 +1,14 @@
 -- Document 01's rules for the set, on replicas without limits. Each definition stands under the sentence that it renders.
 use Prim.Native.Nat.{ℕ, compare}
-use mathlib.Core.Bool.{Bool, true, false, not, _&&_, _||_}
+use mathlib.Core.Bool.{Bool, not, _&&_, _||_}
 use mathlib.Core.Option.{Option, none, some}
 use mathlib.Core.List.{List, [], _∷_, map}
-use Rattle.tables.specs.Table.{get, join, collect, pick, union, isSome, find, any}
+use Rattle.tables.specs.Table.{get, join, collect, pick, union, any}
 use Rattle.tables.specs.Zip.{zip}
 use Rattle.dots.specs.declared.Dot.{Dot}
 use Rattle.dots.specs.Dot.{clocks}
 use Rattle.dots.specs.Clock.{Clock, count, covers, merged, applied, resetBy}
-use Rattle.replica.specs.Replica.{Entry, Wait, Replica, entry?, clockOf, entries, waits, memberSets, entry, waitAt, holds, seen}
+use Rattle.replica.specs.Replica.{Entry, Wait, Replica, entry?, entries, waits, memberSets, entry, holds, seen}
 
 -- an argument list: "duplicates and any order allowed; an empty list too"
 unfoldable pub setOf : List ℕ → List ℕ

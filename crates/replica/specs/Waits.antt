@@ -1,6 +1,6 @@
 -- Waiting removes, as clocks that name members: which dots they cover, and what joining two lists of them "by equal clock" gives.
 use Prim.Native.Nat.{ℕ}
-use mathlib.Core.Path.{_≡_, refl, sym, ap, ap₂, _∙_, subst}
+use mathlib.Core.Path.{_≡_, refl, sym, ap, _∙_, subst}
 use mathlib.Core.Logic.{_≢_}
 use mathlib.Core.Bool.{Bool, true, false, _||_, or-false, or-comm, or-assoc, or-self, false≢true}
 use mathlib.Core.Option.{Option, none, some}

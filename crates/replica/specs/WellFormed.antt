@@ -1,12 +1,12 @@
 -- Well-formed, limits aside: the computed test `sound`, the pointwise facts `Fine`, and that the two say the same. Limits.antt adds the limits.
 use Prim.Native.Nat.{ℕ, zero, suc, _≤_, _<_, compare}
 use mathlib.Core.Path.{_≡_, refl, sym, ap, _∙_, subst}
-use mathlib.Core.Logic.{_≢_, _↔_}
+use mathlib.Core.Logic.{_≢_}
 use mathlib.Core.Bool.{Bool, true, false, not, _||_, false≢true}
-use mathlib.Core.Option.{Option, none, some}
+use mathlib.Core.Option.{some}
 use mathlib.Core.List.{List, [], _∷_, map}
 use native.Mathlib.Omega.{arith}
-use lib.Dec.{T, T-not, leb, ltb, eqb, leb→le, lt→ltb, ltb→lt, nleb→lt, eqb→eq}
+use lib.Dec.{T, T-not, leb, ltb, leb→le, lt→ltb, ltb→lt, nleb→lt, eqb→eq}
 use borrow.Author.Tests.{eq-eqb}
 use Rattle.tables.specs.Order.{nat-order}
 use Rattle.tables.specs.Truth.{and-l, and-r, or-e}
@@ -16,8 +16,8 @@ use Rattle.dots.specs.declared.Dot.{Dot}
 use Rattle.dots.specs.Dot.{clocks, dot?, counterOf, actorOf}
 use Rattle.dots.specs.Clock.{Clock, count, covers, cmpClock, clock-order, normal, filled}
 use Rattle.dots.specs.ClockLaws.{clock-ext, dots-ext, normal-from, normal-to, normal-empty, filled-from, filled-to, covers-le, le-covers}
-use Rattle.replica.specs.Replica.{Entry, Wait, Replica, entries, waits, memberSets, entry?, clockOf, membersOf, entry, waitAt, names, holds, kills, killed}
-use Rattle.replica.specs.Waits.{GoodWait, Each, killed-from, killed-to}
+use Rattle.replica.specs.Replica.{Entry, Wait, Replica, entries, waits, memberSets, entry?, clockOf, membersOf, entry, waitAt, holds, kills, killed}
+use Rattle.replica.specs.Waits.{GoodWait, Each, killed-to}
 
 -- ---- the test
 

@@ -1,5 +1,5 @@
 -- "The lowest number that applies is given": refusals as an ordered list of conditions, and the number of the first that holds.
-use Prim.Native.Nat.{ℕ, zero, suc, _≤_, _<_, compare}
+use Prim.Native.Nat.{ℕ, _≤_, _<_, compare}
 use mathlib.Core.Path.{_≡_, refl, sym, ap, _∙_}
 use mathlib.Core.Logic.{_↔_}
 use mathlib.Core.Bool.{Bool, true, false, false≢true}

@@ -6,7 +6,7 @@ use lib.Dec.{isEq, T}
 use Rattle.tables.specs.Truth.{and-l, and-r, and-i, or-l, or-r}
 use mathlib.Core.Option.{Option, none, some}
 use mathlib.Core.List.{List, [], _∷_, map}
-use Rattle.tables.specs.Order.{Order, turn, self, lt-gt, gt-lt, lt≢eq, lt≢gt, gt≢eq}
+use Rattle.tables.specs.Order.{Order, self, lt-gt, gt-lt}
 
 abbrev pub isSome : {A : Type 0} → Option A → Bool
 isSome none = false

@@ -1,7 +1,7 @@
 -- One turn of a loop over two tables in lists, with a place in each.
-use Prim.Native.Nat.{ℕ, zero, suc, _≤_, _<_, _+_, _-_, min}
-use mathlib.Core.Path.{_≡_, refl, sym, ap, ap₂, _∙_, subst}
-use mathlib.Core.List.{List, [], _∷_}
+use Prim.Native.Nat.{ℕ, _≤_, _<_, _+_, _-_, min}
+use mathlib.Core.Path.{_≡_, sym, ap, ap₂, _∙_}
+use mathlib.Core.List.{List, []}
 use native.Mathlib.Omega.{arith}
 use lib.Dec.{eqb}
 use lib.ListN.{length, take, length-take, drop-of-length-le}

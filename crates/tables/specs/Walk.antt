@@ -1,15 +1,15 @@
 -- Two tables walked along ascending keys, which have all of theirs.
-use Prim.Native.Nat.{ℕ, zero, suc, _+_, _≤_, _<_, compare, Ordering, Ordering·lt, Ordering·eq, Ordering·gt}
+use Prim.Native.Nat.{ℕ, suc, _≤_, _<_, compare, Ordering, Ordering·lt, Ordering·eq, Ordering·gt}
 use mathlib.Core.Path.{_≡_, refl, sym, ap, ap₂, _∙_, subst}
-use mathlib.Core.Bool.{Bool, true, false, _||_, false≢true}
+use mathlib.Core.Bool.{Bool, true, false, false≢true}
 use mathlib.Core.Option.{Option, none, some}
 use mathlib.Core.List.{List, [], _∷_, map}
 use native.Mathlib.Omega.{arith}
-use lib.Dec.{eqb, isEq}
+use lib.Dec.{eqb}
 use lib.ListN.{length}
-use borrow.Author.Tests.{eq-eqb, ne-eqb, eqb-true, eqb-false}
-use Rattle.tables.specs.Order.{Order, self, lt-gt, gt-lt, nat-order, nat-lt, lt-nat, lt≢gt}
-use Rattle.tables.specs.Table.{Kind, Normal, get, join, collect, cons?, find, has, hit, pick, isSome, Below, Asc, find-below, below-trans, has-cons, find-has, ext, get-join, normal-join}
+use borrow.Author.Tests.{eqb-true, eqb-false}
+use Rattle.tables.specs.Order.{self, nat-order, lt-nat}
+use Rattle.tables.specs.Table.{Normal, get, join, collect, cons?, find, has, hit, pick, isSome, Below, Asc, below-trans, ext, get-join, normal-join}
 use Rattle.tables.specs.Zip.{Rows, kind, front, said, past, Rise, rise-past, collect-below, get-first, get-none, get-after, by-lt}
 
 has-below : (k : ℕ) (ks : List ℕ) → Below compare k ks → has compare k ks ≡ false

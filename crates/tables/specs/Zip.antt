@@ -1,5 +1,5 @@
 -- Two tables walked together: at each key, a value of the two values there.
-use Prim.Native.Nat.{ℕ, zero, suc, _+_, _≤_, _<_, compare, min, Ordering, Ordering·lt, Ordering·eq, Ordering·gt}
+use Prim.Native.Nat.{ℕ, _+_, _≤_, _<_, compare, min, Ordering, Ordering·lt, Ordering·eq, Ordering·gt}
 use mathlib.Core.Path.{_≡_, refl, sym, ap, ap₂, _∙_, subst}
 use mathlib.Core.Bool.{Bool, true, false}
 use mathlib.Core.Option.{Option, none, some}
@@ -8,10 +8,10 @@ use native.Mathlib.Omega.{arith}
 use native.Mathlib.Numerals.{add-one}
 use native.Mathlib.Nat.{add-zero}
 use lib.Dec.{eqb, ltb}
-use lib.ListN.{length, take, drop, getD, length-take, drop-of-length-le}
+use lib.ListN.{length, take, getD, length-take, drop-of-length-le}
 use lib.Seq.{slice, slice-cons}
 use borrow.Author.Tests.{eq-eqb, ne-eqb, ltb-true, ltb-false}
-use Rattle.tables.specs.Order.{Order, self, lt-gt, gt-lt, nat-order, nat-lt, lt-nat}
+use Rattle.tables.specs.Order.{self, lt-gt, gt-lt, nat-order, nat-lt}
 use Rattle.tables.specs.Table.{Kind, Normal, Proper, get, join, ext, get-join, normal-join, normal-sift, get-sift, collect, cons?, union, find, hit, pick, Below, Asc, find-below, below-trans, below-union, ins-first, union-gt, union-eq}
 
 -- ---- what a row of a table says does not matter to the keys after it
