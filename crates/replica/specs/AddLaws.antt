@@ -5,13 +5,13 @@ use mathlib.Core.Bool.{Bool, true, false, not, _&&_, _||_}
 use mathlib.Core.Option.{none}
 use mathlib.Core.List.{List, [], _∷_, map}
 use native.Mathlib.Omega.{arith}
-use lib.Dec.{T, isEq, leb, ltb, eqb, lt→ltb}
+use lib.Dec.{T, isEq, leb, ltb, eqb, lt→ltb, leb·zero}
 use borrow.Author.Tests.{leb-false}
 use Rattle.tables.specs.Order.{nat-order}
 use Rattle.tables.specs.Truth.{and-i}
 use Rattle.tables.specs.Ascending.{ascending, before}
-use Rattle.tables.specs.Table.{All, get, Normal, Proper, pick, isSome, find, hit, has, asc-union, get-join, normal-join}
-use Rattle.tables.specs.Zip.{zip}
+use Rattle.tables.specs.Table.{All, get, Normal, Proper, pick, isSome, find, hit, has, asc-union}
+use Rattle.tables.specs.Zip.{zip, get-zip, normal-zip}
 use Rattle.dots.specs.declared.Dot.{Dot}
 use Rattle.dots.specs.Dot.{clocks, actorOf, counterOf}
 use Rattle.dots.specs.Clock.{Clock, count, normal, covers, merged, applied}
@@ -50,13 +50,10 @@ rows-normal d ms = record { asc = rw (rows-keys d (setOf ms)) (asc-union compare
     proper (k ∷ ks) = (refl, proper ks)
 
 takes-get : (d : Dot) (ms : List ℕ) (es : List Entry) (m : ℕ) → get entries (takes d ms es) m ≡ merged (get entries es m) (pick (listed ms m) (d ∷ []) [])
-unfolding takes zip merged
+unfolding takes merged zip
 takes-get d ms es m =
-    get-join entries (λ m. merged (get entries es m) (get entries (map (row d) (setOf ms)) m)) es (map (row d) (setOf ms)) empty m
+    get-zip entries (λ m. merged) es (map (row d) (setOf ms)) (λ m. refl) m
     ∙ ap (merged (get entries es m)) (rows-get d (setOf ms) m ∙ ap (λ (b : Bool). pick b (d ∷ []) []) (set-listed ms m))
-  where
-    empty : (m : ℕ) → get entries es m ≡ [] → get entries (map (row d) (setOf ms)) m ≡ [] → merged (get entries es m) (get entries (map (row d) (setOf ms)) m) ≡ []
-    empty m e f = ap₂ merged e f
 
 pick-normal : (b : Bool) (c : Clock) → Normal clocks c → Normal clocks (pick b c [])
 pick-normal true c h = h
@@ -118,10 +115,10 @@ module _ (d : Dot) (ms : List ℕ) (A : Replica) (h : Fine A) (new : covers (A .
       lower s = let k = above (A .clock) d new in let w = h .within m a in let v : count (A .clock) a ≡ count (A .clock) (actorOf d) = ap (count (A .clock)) s in omega arith
 
   taken-loose : Loose (taken d ms A)
-  unfolding applied takes zip
+  unfolding applied takes
   taken-loose = record {
     clock-ok = merged-normal (A .clock) (d ∷ []) single;
-    entries-ok = normal-join entries (λ m. merged (entry A m) (get entries (map (row d) (setOf ms)) m)) (A .entries) (map (row d) (setOf ms)) (rows-normal d ms);
+    entries-ok = normal-zip entries (λ m. merged) (A .entries) (map (row d) (setOf ms)) (rows-normal d ms);
     waiting-ok = h .waiting-ok;
     each = λ m. rw (takes-get d ms (A .entries) m) (merged-normal (entry A m) (pick (listed ms m) (d ∷ []) []) (pick-normal (listed ms m) (d ∷ []) single));
     within = λ m a. rw (takes-count d ms (A .entries) m a, merged-count (A .clock) (d ∷ []) a) (at-most (count (entry A m) a) (count (d ∷ []) a) (count (A .clock) a) (listed ms m) (h .within m a));
@@ -138,6 +135,10 @@ module _ (d : Dot) (ms : List ℕ) (A : Replica) (h : Fine A) (new : covers (A .
 pub add-seen : (d : Dot) (ms : List ℕ) (A : Replica) → covers (A .clock) (d ∷ []) ≡ true → add d ms A ≡ A
 unfolding add
 add-seen d ms A e = rw e
+
+pub add-zero : (d : Dot) (ms : List ℕ) (A : Replica) → d .counter ≡ 0 → add d ms A ≡ A
+unfolding covers
+add-zero d ms A z = add-seen d ms A (rw (z, leb·zero (count (A .clock) (actorOf d))))
 
 -- "Otherwise each listed member's clock takes the dot, V takes it, then all waiting removes are applied again."
 pub record Added (d : Dot) (ms : List ℕ) (A R : Replica) : Type 0 where
