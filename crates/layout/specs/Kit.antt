@@ -24,7 +24,7 @@ use Rattle.layout.specs.Clock.{narrow, dotIn, clockIn, clockEndIn, clock
 use Rattle.layout.specs.Rows.{rowEndIn, rowAt, rowEnd, rowsAt, placesAt, encodeRowIn, encodeRow, waitEndIn, waitEnd, waitAtPlace, waitsAt, waitPlacesAt, encodeWaitIn, encodeWait, membersAt, encodeMembers}
 use Rattle.layout.specs.Good.{chain, namedTests, clockTests, rowTests, waitTests, risingMembers, goodMembersIn, goodMembers, goodClockIn, goodClock, goodRowsIn, goodRows, goodWaitsIn, goodWaits}
 use Rattle.layout.specs.Held.{Holds}
-use Rattle.layout.specs.Form.{length-listAt}
+use Rattle.layout.specs.Form.{Form, Faithful, length-listAt, span-list}
 
 -- ---- one turn from the front
 
@@ -97,6 +97,14 @@ place-row s p n i d h = place-list rowEnd s rowAt p n i d h
 
 pub place-wait : (s : List ℕ) (p n i : ℕ) (d : Wait) → i < n → getD (waitsAt s p n) i d ≡ waitAtPlace s (getD (waitPlacesAt s p n) i 0)
 place-wait s p n i d h = place-list waitEnd s waitAtPlace p n i d h
+
+-- each of n things ends where the last does, or before
+pub place-inside : {R : Type 0} (F : Form R) {Fits : R → Type 0} → Faithful F Fits → (s : List ℕ) (p n i : ℕ) → i < n
+    → F .end s (getD (startsAt (F .end) s p n) i 0) ≤ endAfter (F .end) s p n
+unfolding startsAt endAfter
+place-inside F L s p zero i h = absurd (omega arith)
+place-inside F L s p (suc n) zero h = let e = span-list F L s (F .end s p) n in omega arith
+place-inside F L s p (suc n) (suc i) h = place-inside F L s (F .end s p) n i (omega arith)
 
 -- the part of the bytes that holds e is e
 pub part-is : (s : List ℕ) (p : ℕ) (e : List ℕ) → Holds s p e → take (length e) (drop p s) ≡ e

@@ -6,7 +6,7 @@ use mathlib.Core.Option.{some}
 use mathlib.Core.List.{List, [], _∷_}
 use native.Mathlib.Omega.{arith}
 use lib.Dec.{T}
-use lib.ListN.{length}
+use lib.ListN.{length, getD}
 use Rattle.tables.specs.Truth.{and-l, and-r, and-i}
 use Rattle.dots.specs.Dot.{dot}
 use Rattle.dots.specs.Rising.{true-from}
@@ -14,12 +14,14 @@ use Rattle.replica.specs.Replica.{Replica}
 use Rattle.replica.specs.Limits.{full, wellFormed}
 use Rattle.layout.specs.Fields.{Bytes, le16, le32, le64}
 use Rattle.layout.specs.Lists.{bytesOf, endAfter}
-use Rattle.layout.specs.Clock.{narrow, encodeDotIn, encodeClockIn}
-use Rattle.layout.specs.Rows.{encodeRowIn}
-use Rattle.layout.specs.Image.{contents, contentsOf, rowsFrom, waitsFrom, lengthOf, encodeIn, encode, readable, imageOf, goodIn, goodImage, decode, waitsStart, waitsCount}
+use Rattle.layout.specs.Clock.{narrow, encodeDotIn, encodeClockIn, clockEnd}
+use Rattle.layout.specs.Rows.{encodeRowIn, rowEnd, placesAt, waitEnd, waitPlacesAt}
+use Rattle.layout.specs.Image.{contents, contentsOf, rowsFrom, waitsFrom, lengthOf, encodeIn, encode, readable, imageOf, goodIn, goodImage, decode, entriesStart, entriesCount, waitsStart, waitsCount}
 use Rattle.layout.specs.Fits.{Fits}
 use Rattle.layout.specs.Good.{checks}
-use Rattle.layout.specs.Parts.{sound-narrow}
+use Rattle.layout.specs.Form.{span-list}
+use Rattle.layout.specs.Kit.{place-inside}
+use Rattle.layout.specs.Parts.{sound-narrow, rowForm, waitForm, row-laws, wait-laws}
 use Rattle.layout.specs.Round.{readable-from, readable-to, length-encode, bytes-encode, rewritten, fits-image, read-back, readable-encode}
 use Rattle.layout.specs.Formed.{formed-from}
 use Rattle.layout.specs.Checks.{checks-is}
@@ -116,6 +118,24 @@ encode-once q r wq fq wr fr e = sym (image-encode q wq fq) ∙ ap imageOf e ∙ 
 -- no accepted bytes are longer than the longest
 pub good-length : (b : List ℕ) → Bytes b → T (goodImage b) → length b ≤ 18268
 good-length b y t = let h = at-most (imageOf b) (good-formed b t) in rw (encode-good b y t) at h
+
+-- ---- every read is inside the bytes
+
+pub record Inside (b : List ℕ) : Type 0 where
+  pub clock-inside : clockEnd b 24 ≤ length b
+  pub row-inside : (i : ℕ) → i < entriesCount b → rowEnd b (getD (placesAt b (entriesStart b) (entriesCount b)) i 0) ≤ length b
+  pub wait-inside : (i : ℕ) → i < waitsCount b → waitEnd b (getD (waitPlacesAt b (waitsStart b) (waitsCount b)) i 0) ≤ length b
+
+pub inside : (b : List ℕ) → T (readable b) → Inside b
+inside b t =
+    let h = readable-from narrow b t in
+    let e = span-list (rowForm narrow) row-laws b (entriesStart b) (entriesCount b) in
+    let w = span-list (waitForm narrow) wait-laws b (waitsStart b) (waitsCount b) in
+    record {
+      clock-inside = omega arith;
+      row-inside = λ i k. let p = place-inside (rowForm narrow) row-laws b (entriesStart b) (entriesCount b) i k in omega arith;
+      wait-inside = λ i k. let p = place-inside (waitForm narrow) wait-laws b (waitsStart b) (waitsCount b) i k in omega arith;
+    }
 
 -- ---- the check in one pass
 
