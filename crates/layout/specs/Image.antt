@@ -75,7 +75,7 @@ module _ (A : Width) where
     waiting = listAt (waitIn A) (waitEndIn A) s (waitsStart s) (waitsCount s);
   }
 
-  -- ---- second stage: the value rules and limits on that
+  -- ---- second stage: what they say is well-formed, its limits among it
 
   unfoldable pub goodIn : Limits → List ℕ → Bool
   goodIn l s = readableIn s && wellFormed l (imageIn s)
@@ -95,5 +95,6 @@ imageOf = imageIn narrow
 abbrev pub goodImage : List ℕ → Bool
 goodImage = goodIn narrow full
 
+-- the replica of an image that is good
 unfoldable pub decode : List ℕ → Option Replica
 decode s = pick (goodImage s) (some (imageOf s)) none

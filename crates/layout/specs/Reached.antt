@@ -1,8 +1,8 @@
 -- The longest image is reached: a replica at all its limits.
-use Prim.Native.Nat.{ℕ, zero, suc, _+_}
+use Prim.Native.Nat.{ℕ, zero, suc}
 use mathlib.Core.Path.{_≡_, refl}
 use mathlib.Core.List.{List, [], _∷_}
-use lib.Dec.{T, eqb}
+use lib.Dec.{T}
 use lib.ListN.{length}
 use Rattle.tables.specs.Table.{alls}
 use Rattle.tables.specs.Ascending.{ascending, before}
