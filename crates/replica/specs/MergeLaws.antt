@@ -9,11 +9,13 @@ use mathlib.Core.List.{[]}
 use native.Mathlib.Omega.{arith}
 use lib.Dec.{T, eqb→eq}
 use Rattle.tables.specs.Table.{pick}
+use Rattle.tables.specs.Refusal.{First}
 use Rattle.dots.specs.Clock.{Clock, count, covers}
 use Rattle.replica.specs.Replica.{Replica, entry, waitAt, isIn, holds, seen, killed}
 use Rattle.replica.specs.Rules.{unite, stay, together, merge, settled}
 use Rattle.replica.specs.WellFormed.{sound, sound-fine, fine-sound, fine-ext}
-use Rattle.replica.specs.Judge.{granted, judge, mergeBy, granted-is}
+use Rattle.replica.specs.Limits.{Limits, limitsOf, broken, Within, broken-right, unbroken-right}
+use Rattle.replica.specs.Judge.{refused, granted, judge, mergeBy, granted-is, refused-is}
 use Rattle.replica.specs.Settle.{settle-settled}
 use Rattle.replica.specs.Merged.{Merged, live, killed-kept, only-one, merge-swap, merge-self, merge-grouped}
 use Rattle.replica.specs.ByDots.{together-holds, merge-is, byDots, literal}
@@ -72,7 +74,8 @@ module _ (A B : Replica) (s : T (sound A)) (t : T (sound B)) where
   unfolding merge
   merge-settled = settle-settled (together A B)
 
-  -- "demand 3": a member is in the merge exactly if it is kept
+  -- a member is in the merge exactly if some dot of it is held by both, or by one while the other's V doesn't cover it, and no waiting remove of
+  -- either that names the member covers that dot
   pub merge-members : (m : ℕ) → T (isIn (merge A B) m) ↔ Kept A B m
   merge-members = membership A B (merge A B) (sound-fine A s) (sound-fine B t) merge-says
 
@@ -121,6 +124,19 @@ module _ (j : Replica → ℕ) where
   pub granted-members : (A B M : Replica) → T (sound A) → T (sound B) → mergeBy j A B ≡ granted M → (m : ℕ) → T (isIn M m) ↔ Kept A B m
   unfolding mergeBy
   granted-members A B M s t g m = rw ((granted-is j (merge A B) M g) .0) (merge-members A B s t m)
+
+-- ---- limits: the number is right
+
+module _ (l : Limits) (A B : Replica) where
+  -- a merge is refused with the number of the first limit that the finished merge breaks, in the order of the table
+  pub refused-right : (k : ℕ) → mergeBy (broken l) A B ≡ refused k → First (limitsOf l (merge A B)) k
+  unfolding mergeBy
+  refused-right k e = let r = refused-is (broken l) (merge A B) k e in (broken-right l (merge A B) k (r .1)) .0 (r .0)
+
+  -- a merge that is granted is the finished merge, and breaks none
+  pub granted-right : (M : Replica) → mergeBy (broken l) A B ≡ granted M → (M ≡ merge A B) × Within l M
+  unfolding mergeBy
+  granted-right M e = let g = granted-is (broken l) (merge A B) M e in (g .0, rw (g .0) ((unbroken-right l (merge A B)) .0 (g .1)))
 
 -- ---- the outside definition
 

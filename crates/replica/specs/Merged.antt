@@ -117,8 +117,11 @@ pub settled-open : (A : Replica) → T (settled A) → (c : Clock) (w : Wait) �
 unfolding settled
 settled-open A t c w e = go (covers (A .clock) c) refl
   where
+    done : Wait → Bool
+    done w = covers (A .clock) (w .clock)
+
     go : (b : Bool) → covers (A .clock) c ≡ b → covers (A .clock) c ≡ false
-    go true u = absurd (T-not (any (λ w. covers (A .clock) (w .clock)) (A .waiting)) t (at-any waits (λ w. covers (A .clock) (w .clock)) (A .waiting) c w e (rw (← (key-at waits (A .waiting) c w e), u) tt)))
+    go true u = absurd (T-not (any done (A .waiting)) t (at-any waits done (A .waiting) c w e (rw (← (key-at waits (A .waiting) c w e), u) tt)))
     go false u = u
 
 pub merge-self : (A : Replica) → Fine A → T (settled A) → Merged A A A
@@ -143,14 +146,16 @@ module _ (A B C X Y M : Replica) (f : Fine A) (g : Fine B) (h : Fine C) (x : Mer
       let n = suc k in
       r .holds-is m a k
       ∙ ap₂ (λ (p q : Bool). lives p (holds C m a n) q (seen C a n) (killed X m a n) (killed C m a n)) (x .holds-is m a k) (seen-is A B X x a n)
-      ∙ grouping-law (holds A m a n) (seen A a n) (killed A m a n) (holds B m a n) (seen B a n) (killed B m a n) (holds C m a n) (seen C a n) (killed C m a n) (killed X m a n) (killed Y m a n)
+      ∙ grouping-law (holds A m a n) (seen A a n) (killed A m a n) (holds B m a n) (seen B a n) (killed B m a n) (holds C m a n) (seen C a n) (killed C m a n)
+      (killed X m a n) (killed Y m a n)
       (fine-sane A f m a k) (fine-sane B g m a k) (fine-sane C h m a k) (rest-law A B X x f g m a n) (rest-law B C Y y g h m a n)
       ∙ sym (ap₂ (λ (p q : Bool). lives (holds A m a n) p (seen A a n) q (killed A m a n) (killed Y m a n)) (y .holds-is m a k) (seen-is B C Y y a n))
 
   grouped-waiting : (c : Clock) → waitAt M c ≡ pick (covers (M .clock) c) none (unite (waitAt A c) (waitAt Y c))
   grouped-waiting c = r .wait-is c ∙ go (covers (M .clock) c) refl
     where
-      go : (b : Bool) → covers (M .clock) c ≡ b → pick (covers (M .clock) c) none (unite (waitAt X c) (waitAt C c)) ≡ pick (covers (M .clock) c) none (unite (waitAt A c) (waitAt Y c))
+      go : (b : Bool) → covers (M .clock) c ≡ b
+          → pick (covers (M .clock) c) none (unite (waitAt X c) (waitAt C c)) ≡ pick (covers (M .clock) c) none (unite (waitAt A c) (waitAt Y c))
       go true e = rw e
       go false e =
           let p : covers (X .clock) c ≡ false = not-covers (X .clock) (M .clock) c (λ a. let u = r .clock-is a in omega arith) e in

@@ -20,7 +20,7 @@ use Rattle.replica.specs.Membership.{Clear, Brings, live-from, live-to}
 
 -- ---- the report's set
 
--- "payload set E, vect v": E holds triples of element, timestamp and replica; v the largest timestamp seen of each replica
+-- payload: E, a set of triples (element, timestamp, replica), and v, a vector: the largest timestamp seen of each replica
 pub record Payload : Type 1 where
   pub E : ℕ → ℕ → ℕ → Type 0
   pub v : ℕ → ℕ

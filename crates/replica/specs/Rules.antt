@@ -28,14 +28,16 @@ joinWaits xs ys = zip waits (λ c. unite) xs ys
 unfoldable pub removeFrom : Wait → List Entry → List Entry
 removeFrom w es = collect (λ e. pick (get memberSets (w .members) (e .member)) (entry? (e .member) (resetBy (w .clock) (e .clock))) (some e)) es
 
+-- the same by several removes, one after the other
 unfoldable pub removesFrom : List Wait → List Entry → List Entry
 removesFrom [] es = es
 removesFrom (w ∷ ws) es = removesFrom ws (removeFrom w es)
 
--- "Applying waiting removes again: each resets its members' entries; those whose clock V covers are gone, the rest stay."
+-- the waiting removes whose clock v does not cover
 abbrev pub uncovered : Clock → List Wait → List Wait
 uncovered v ws = collect (λ w. pick (covers v (w .clock)) none (some w)) ws
 
+-- "Applying waiting removes again: each resets its members' entries; those whose clock V covers are gone, the rest stay."
 unfoldable pub settle : Replica → Replica
 settle A = record { clock = A .clock; entries = removesFrom (A .waiting) (A .entries); waiting = uncovered (A .clock) (A .waiting) }
 
@@ -60,9 +62,11 @@ remove c ms A = record {
 unfoldable pub stay : Replica → Replica → ℕ → ℕ → ℕ → Bool
 stay A B m a n = holds A m a n && holds B m a n || (holds A m a n && not (seen B a n) || holds B m a n && not (seen A a n))
 
+-- the counter of a in the entry of m then: the first's if that dot stays, else the second's if that one does
 unfoldable pub stayAt : Replica → Replica → ℕ → ℕ → ℕ
 stayAt A B m a = pick (stay A B m a (count (entry A m) a)) (count (entry A m) a) (pick (stay A B m a (count (entry B m) a)) (count (entry B m) a) 0)
 
+-- and the entries: those of the members of either, with the actors of either clock
 unfoldable pub staying : Replica → Replica → List Entry
 staying A B = join entries (λ m. join clocks (stayAt A B m) (entry A m) (entry B m)) (A .entries) (B .entries)
 
