@@ -1,0 +1,20 @@
+use Rattle.kills.proofs.Steps.{counted-none, counted-first, counted-other}
+use native.Mathlib.Omega.{arith}
+use mathlib.Core.Path.{_≡_, sym, _∙_}
+use borrow.Author.Needs.{needs}
+use Rattle.kills.proofs.counted.Statement.{statement}
+use Rattle.kills.proofs.counted.Tie as tie
+
+returns : tie.Need-returns
+returns c = let a = c .before .before .args in sym (counted-none (a .t .now) (a .a) (a .p) (a .left) (omega arith))
+
+returns-2 : tie.Need-returns-2
+returns-2 c = let a = c .before .before .before .before .before .args in c .u64-at .ensures ∙ counted-first (a .t .now) (a .a) (a .p) (a .left) (omega arith) (omega arith)
+
+returns-3 : tie.Need-returns-3
+returns-3 c = let a = c .before .before .before .before .args in counted-other (a .t .now) (a .a) (a .p) (a .left) (omega arith) (λ e. omega arith)
+
+pub counted-spec : {M : Type 1} → statement M
+counted-spec =
+    tie.close
+    (tie.spec returns (λ c κs. search needs) (λ c. search needs) (λ c κs. search needs) returns-2 returns-3)
