@@ -1,1 +1,3 @@
 // The merge of two replica images.
+mod ahead;
+mod entries;

@@ -1,0 +1,4 @@
+pub mod AheadSteps
+pub mod KeepSteps
+pub mod RowSteps
+pub mod RowLoop
