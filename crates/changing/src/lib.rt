@@ -1,0 +1,1 @@
+// Add, remove and reset over replica images.
