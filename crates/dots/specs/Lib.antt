@@ -5,3 +5,4 @@ pub mod ClockLaws
 pub mod Rising
 pub mod Covering
 pub mod Ruled
+pub mod ClockOrder
