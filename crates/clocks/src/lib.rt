@@ -368,9 +368,9 @@ impl VClock {
         requires { ⌜ self .len ≤ 16 ⌝ }
         ensures { λ r. ⌜ r ≡ count (dotsOf self) a ⌝ }
     {
-        let n = self.len;
+        let len = self.len;
         let mut i: usize = 0;
-        while i < n {
+        while i < len {
             let d = self.dots[i];
             if d.actor.0 == a {
                 return d.counter;
