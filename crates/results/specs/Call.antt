@@ -18,10 +18,18 @@ pub record Call : Type 0 where
   pub refusals : List Refusal
   pub result : Replica
 
--- "The lowest number that applies is given. Limits are judged on the finished result, never on a step between." Then 10: "the output is
--- shorter than the result".
+-- what it refuses of a finished result: 6 to 9, "judged on the finished result, never on a step between", then 10, "the output is shorter than
+-- the result"
+abbrev pub finishOf : Limits → Replica → ℕ → List Refusal
+finishOf l A room = limitsOf l A ++ 10 if ltb room (length (encode A)) ∷ []
+
+-- all that it refuses, in the order of the table
+abbrev pub tableOf : Limits → Call → ℕ → List Refusal
+tableOf l c room = c .refusals ++ finishOf l (c .result) room
+
+-- "The lowest number that applies is given."
 unfoldable pub numberOf : Limits → Call → ℕ → ℕ
-numberOf l c room = firstOf (c .refusals ++ (limitsOf l (c .result) ++ 10 if ltb room (length (encode (c .result))) ∷ []))
+numberOf l c room = firstOf (tableOf l c room)
 
 -- a refusal carries "zeros beside its number"; a granted call "returns its length"
 unfoldable pub answered : ℕ → ℕ → Written
