@@ -127,7 +127,8 @@ impl Answer {
     }
 }
 
-fn hex(bytes: &[u8]) -> String {
+/// Two digits a byte, or `-` for none.
+pub fn hex(bytes: &[u8]) -> String {
     if bytes.is_empty() {
         return "-".to_string();
     }
