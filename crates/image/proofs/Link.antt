@@ -1,0 +1,301 @@
+-- The walk along v says what an entry owes: v covers it, and every waiting remove spares it.
+use Prim.Native.Nat.{ℕ, zero, suc, _+_, _*_, _≤_, _<_, min, compare, Ordering, Ordering·lt, Ordering·eq, Ordering·gt}
+use mathlib.Core.Path.{_≡_, refl, sym, ap, ap₂, _∙_, subst}
+use mathlib.Core.Bool.{Bool, true, false, _&&_, and-false}
+use mathlib.Core.List.{List, [], _∷_, _++_, map}
+use native.Mathlib.Omega.{arith}
+use native.Mathlib.Nat.{add-zero, zero-add}
+use lib.Dec.{leb, ltb, eqb, T, ltb→lt}
+use lib.ListN.{length, take, drop, getD, replicate, length-map, List·getD-map}
+use lib.Seq.{sets, sets-eq, take-at}
+use borrow.Author.Tests.{lt-leb, eq-eqb, ne-eqb}
+use Rattle.tables.specs.Order.{nat-order, nat-lt, lt-nat, gt-lt}
+use Rattle.tables.specs.Table.{pick, get, every, All, Asc, Below, Normal, below-trans}
+use Rattle.tables.specs.Zip.{Rise, get-none}
+use Rattle.dots.specs.declared.Dot.{Dot}
+use Rattle.dots.specs.Dot.{dots, clocks, actorOf, noDot, counterOf}
+use Rattle.dots.specs.Clock.{Clock, count, covers}
+use Rattle.dots.specs.Covering.{count-same, count-other}
+use Rattle.dots.specs.Rising.{true-from}
+use Rattle.dots.specs.ClockLaws.{dot-proper}
+use Rattle.clocks.specs.declared.VClock.{VClock}
+use Rattle.clocks.specs.VClock.{dotsOf, vclock, dots-vclock}
+use Rattle.replica.specs.Replica.{Entry, Wait, Replica, memberRows, entryRows}
+use Rattle.replica.specs.Kills.{killsOf, spared-number}
+use Rattle.layout.specs.Fields.{u32At}
+use Rattle.layout.specs.Lists.{listAt, startsAt}
+use Rattle.layout.specs.Clock.{narrow, clockAt, clockEnd}
+use Rattle.layout.specs.Rows.{rowAt, rowIn, rowEnd, rowsAt, placesAt, waitIn, waitAtPlace, waitEnd, waitsAt, waitPlacesAt, waitsEnd, membersAt}
+use Rattle.layout.specs.Image.{imageIn, imageOf, goodImage}
+use Rattle.replica.specs.Limits.{full}
+use Rattle.layout.specs.Good.{goodClock, goodMembers, goodRows, goodWaits, goodEntry, goodContents, goodParts, goodPartsIn, partsTests, checksIn}
+use Rattle.layout.specs.Kit.{Stands, stands, Named, named, clock-normal, place-row, place-good, first-wait, length-startsAt, length-clockAt, each-from}
+use Rattle.layout.specs.Form.{length-listAt}
+use Rattle.layout.specs.Checks.{rows-rise, members-rise}
+use Rattle.fields.specs.Read.{clockRead}
+use Rattle.kills.specs.Lines.{killLines, membersOf, waitRead, waitsOf}
+use Rattle.kills.specs.Laws.{Ordered, kill-numbers}
+use Rattle.image.specs.Fits.{within, fits, fitAll}
+use Rattle.layout.specs.Main.{checked}
+use Rattle.image.specs.declared.Image.{Image}
+use Rattle.image.specs.Image.{imageOfBytes, checkImage, partsImage, noImage}
+use Rattle.image.proofs.Steps.{contents-few}
+use Rattle.image.proofs.Whole.{read-good, picked-true, picked-false}
+
+-- ---- one entry
+
+covers-skip : (x : Dot) (v ds : Clock) → Below compare (actorOf x) (map (λ d. actorOf d) ds) → covers (x ∷ v) ds ≡ covers v ds
+unfolding covers
+covers-skip x v [] h = refl
+covers-skip x v (d ∷ ds) h =
+    let k = nat-lt (actorOf x) (actorOf d) (h .0) in
+    ap₂ _&&_ (ap (leb (d .counter)) (count-other x v (actorOf d) (λ e. omega arith))) (covers-skip x v ds (h .1))
+
+count-low : (v : Clock) (a : ℕ) → Below compare a (map (λ d. actorOf d) v) → count v a ≡ 0
+count-low v a h = get-none clocks v a h
+
+covers-low : (v : Clock) (d : Dot) (ds : Clock) → 0 < d .counter → Below compare (actorOf d) (map (λ d. actorOf d) v) → covers v (d ∷ ds) ≡ false
+unfolding covers
+covers-low v d ds h b = rw (count-low v (actorOf d) b, lt-leb (d .counter) 0 h)
+
+reorder : (a b c e : Bool) → (a && b && (c && e)) ≡ (a && c && (b && e))
+reorder true true c e = refl
+reorder true false true e = refl
+reorder true false false e = refl
+reorder false b c e = refl
+
+module _ (t : List ℕ) (k : ℕ → ℕ) where
+  above : Dot → Bool
+  above d = ltb (k (actorOf d)) (d .counter)
+
+  pub fits-is : (q : ℕ) (v ds : Clock) → Asc compare (map (λ d. actorOf d) v) → Asc compare (map (λ d. actorOf d) ds) → All (λ d. 0 < d .counter) ds
+      → ((j : ℕ) → j < length v → getD t (q + j) 0 ≡ k (actorOf (getD v j noDot))) → fits t q v ds ≡ (covers v ds && every (λ d. ltb (k (actorOf d)) (d .counter)) ds)
+  unfolding fits covers
+  fits-is q [] [] va da pos h = refl
+  fits-is q [] (d ∷ ds) va da pos h = rw (lt-leb (d .counter) 0 (pos .0))
+  fits-is q (x ∷ v) [] va da pos h = refl
+  fits-is q (x ∷ v) (d ∷ ds) va da pos h =
+      go (compare (actorOf d) (actorOf x)) refl (fits-is (suc q) v ds (va .1) (da .1) (pos .1) shift) (fits-is (suc q) v (d ∷ ds) (va .1) da pos shift)
+    where
+      shift : (j : ℕ) → j < length v → getD t (suc q + j) 0 ≡ k (actorOf (getD v j noDot))
+      shift j l = let e : suc q + j ≡ q + suc j = omega arith in rw e (h (suc j) (omega arith))
+
+      go : (o : Ordering) → compare (actorOf d) (actorOf x) ≡ o → fits t (suc q) v ds ≡ (covers v ds && every (λ d. ltb (k (actorOf d)) (d .counter)) ds)
+          → fits t (suc q) v (d ∷ ds) ≡ (covers v (d ∷ ds) && every (λ d. ltb (k (actorOf d)) (d .counter)) (d ∷ ds)) → fits t q (x ∷ v) (d ∷ ds) ≡ (covers (x ∷ v) (d ∷ ds) && every (λ d. ltb (k (actorOf d)) (d .counter)) (d ∷ ds))
+      go Ordering·lt e i r =
+          let l = nat-lt (actorOf d) (actorOf x) e in
+          let b = below-trans compare nat-order (actorOf d) (actorOf x) (map (λ d. actorOf d) v) e (va .0) in
+          rw (ne-eqb (actorOf d) (actorOf x) (λ z. omega arith), covers-low (x ∷ v) d ds (pos .0) (e, b))
+          (r ∙ rw (covers-low v d ds (pos .0) b))
+      go Ordering·eq e i r =
+          let s : actorOf d ≡ actorOf x = nat-order .same (actorOf d) (actorOf x) e in
+          let b : Below compare (actorOf x) (map (λ d. actorOf d) ds) = subst (λ (a : ℕ). Below compare a (map (λ d. actorOf d) ds)) s (da .0) in
+          let z : getD t q 0 ≡ k (actorOf d) = rw add-zero at (h 0 (omega arith)) ∙ ap k (sym s) in
+          let c : count (x ∷ v) (actorOf d) ≡ x .counter = ap (count (x ∷ v)) s ∙ count-same x v in
+          rw (eq-eqb (actorOf d) (actorOf x) s, z, i)
+          (reorder (leb (d .counter) (x .counter)) (ltb (k (actorOf d)) (d .counter)) (covers v ds) (every (λ d. ltb (k (actorOf d)) (d .counter)) ds)
+          ∙ ap (λ (w : Bool). w && every (λ d. ltb (k (actorOf d)) (d .counter)) (d ∷ ds)) (ap₂ _&&_ (ap (leb (d .counter)) (sym c)) (sym (covers-skip x v ds b))))
+      go Ordering·gt e i r =
+          let g = gt-lt compare nat-order (actorOf d) (actorOf x) e in
+          let l = nat-lt (actorOf x) (actorOf d) g in
+          let b = below-trans compare nat-order (actorOf x) (actorOf d) (map (λ d. actorOf d) ds) g (da .0) in
+          rw (ne-eqb (actorOf d) (actorOf x) (λ z. omega arith), covers-skip x v (d ∷ ds) (g, b)) r
+
+positive : (ds : Clock) → Normal clocks ds → All (λ d. 0 < d .counter) ds
+positive [] n = tt
+positive (d ∷ ds) n = (ltb→lt 0 (d .counter) (dot-proper d (n .proper .0)), positive ds (record { asc = n .asc .1; proper = n .proper .1 }))
+
+-- ---- all entries
+
+all-index : (t s : List ℕ) (v : Clock) (R : Replica) (d₀ : Entry) (i p n : ℕ)
+    → ((m : ℕ) → m < n → fits t (16 * (i + m)) v (clockAt s (getD (placesAt s p n) m 0 + 4)) ≡ goodEntry R (getD (rowsAt s p n) m d₀))
+    → fitAll t s v i (placesAt s p n) ≡ every (goodEntry R) (rowsAt s p n)
+unfolding fitAll startsAt listAt
+all-index t s v R d₀ i p zero h = refl
+all-index t s v R d₀ i p (suc n) h =
+    ap₂ _&&_ (rw add-zero at (h 0 (omega arith)))
+    (all-index t s v R d₀ (suc i) (rowEnd s p) n (λ m l. let e : suc i + m ≡ i + suc m = omega arith in rw e (h (suc m) (omega arith))))
+
+-- ---- what is read at the places is what stands there
+
+taken : (z xs : List ℕ) (n : ℕ) → length xs ≡ n → n ≤ length z → take n (sets z 0 xs) ≡ xs
+taken z xs n e h = rw (sets-eq xs z 0 (omega arith)) (take-at xs (drop (0 + length xs) z) n e)
+
+members-are : (s : List ℕ) (p n : ℕ) → map (λ q. u32At s q) (placesAt s p n) ≡ map (λ e. e .member) (rowsAt s p n)
+unfolding startsAt listAt rowIn
+members-are s p zero = refl
+members-are s p (suc n) = ap (λ (l : List ℕ). u32At s p ∷ l) (members-are s (rowEnd s p) n)
+
+wait-is : (s : List ℕ) (p : ℕ) → goodClock s p ≡ true → goodMembers s (clockEnd s p) ≡ true → waitRead s p ≡ waitAtPlace s p
+unfolding waitRead waitIn
+wait-is s p g m =
+    let w = named s (clockEnd s p) m in
+    let e : min (u32At s (clockEnd s p)) 32 ≡ u32At s (clockEnd s p) = omega (arith, w .few) in
+    rw (read-good s p g, e)
+
+waits-are : (s : List ℕ) (p : ℕ) (last : Clock) (n : ℕ) → goodWaits s p last n ≡ true → map (λ q. waitRead s q) (waitPlacesAt s p n) ≡ waitsAt s p n
+unfolding startsAt listAt
+waits-are s p last zero g = refl
+waits-are s p last (suc n) g = let f = first-wait s p last n g in ap₂ _∷_ (wait-is s p (f .clock-good) (f .members-good)) (waits-are s (waitEnd s p) (clockAt s p) n (f .others))
+
+map-self : (ms : List ℕ) → map (λ m. m) ms ≡ ms
+map-self [] = refl
+map-self (m ∷ ms) = ap (λ (l : List ℕ). m ∷ l) (map-self ms)
+
+waits-ordered : (s : List ℕ) (p : ℕ) (last : Clock) (n : ℕ) → goodWaits s p last n ≡ true → All Ordered (waitsAt s p n)
+unfolding listAt waitIn
+waits-ordered s p last zero g = tt
+waits-ordered s p last (suc n) g =
+    let f = first-wait s p last n g in (
+      record { clock-asc = clock-normal s p (f .clock-good) .asc; members-asc = rw (map-self (membersAt s (clockEnd s p + 4) (u32At s (clockEnd s p)))) (members-rise s (clockEnd s p) (f .members-good)) },
+      waits-ordered s (waitEnd s p) (clockAt s p) n (f .others),
+    )
+
+-- ---- the entries of an image whose parts are good
+
+module _ (s : List ℕ) (start n wstart k : ℕ) (few : n ≤ 64) (waits-few : k ≤ 16) (cg : goodClock s 24 ≡ true) (rg : goodRows s start 0 n ≡ true) (wg : goodWaits s wstart [] k ≡ true) where
+  abbrev R : Replica
+  R = record { clock = clockAt s 24; entries = rowsAt s start n; waiting = waitsAt s wstart k }
+
+  abbrev places : List ℕ
+  places = sets (replicate 64 0) 0 (placesAt s start n)
+
+  abbrev starts : List ℕ
+  starts = sets (replicate 16 0) 0 (waitPlacesAt s wstart k)
+
+  taken-places : take n places ≡ placesAt s start n
+  taken-places = taken (replicate 64 0) (placesAt s start n) n (length-startsAt rowEnd s start n) few
+
+  taken-starts : take k starts ≡ waitPlacesAt s wstart k
+  taken-starts = taken (replicate 16 0) (waitPlacesAt s wstart k) k (length-startsAt waitEnd s wstart k) waits-few
+
+  clock-is : dotsOf (vclock (clockAt s 24)) ≡ clockAt s 24
+  clock-is = dots-vclock (clockAt s 24) (let w = stands s 24 cg in let e = length-clockAt s 24 in omega (arith, w .count))
+
+  ms-are : membersOf s places n ≡ map (λ e. e .member) (rowsAt s start n)
+  unfolding membersOf
+  ms-are = rw taken-places (members-are s start n)
+
+  ws-are : waitsOf s starts k ≡ waitsAt s wstart k
+  unfolding waitsOf
+  ws-are = rw taken-starts (waits-are s wstart [] k wg)
+
+  abbrev lines : List ℕ
+  lines = killLines (clockAt s 24) (map (λ e. e .member) (rowsAt s start n)) (waitsAt s wstart k) (replicate 1024 0)
+
+  one : (m : ℕ) → m < n → fits lines (16 * (0 + m)) (clockAt s 24) (clockAt s (getD (placesAt s start n) m 0 + 4)) ≡ goodEntry R (getD (rowsAt s start n) m (record { member = 0; clock = [] }))
+  unfolding goodEntry rowIn
+  one m h =
+      let p = getD (placesAt s start n) m 0 in
+      let e : Entry = rowAt s p in
+      let u = clockAt s 24 in
+      let ms = map (λ e. e .member) (rowsAt s start n) in
+      let ws = waitsAt s wstart k in
+      let nc = clock-normal s (p + 4) (place-good s start 0 n m rg h) in
+      let nv = clock-normal s 24 cg in
+      let row : getD (rowsAt s start n) m (record { member = 0; clock = [] }) ≡ rowAt s p = place-row s start n m (record { member = 0; clock = [] }) h in
+      let lm : length ms ≡ n = length-members in
+      let mm : getD ms m 0 ≡ u32At s p = member-at m h in
+      let lv : length u ≤ 16 = let w = stands s 24 cg in let q = length-clockAt s 24 in omega (arith, w .count) in
+      let z : 0 + m ≡ m = zero-add m in
+      let kn : (j : ℕ) → j < length u → getD lines (16 * m + j) 0 ≡ killsOf ws (u32At s p) (actorOf (getD u j noDot)) =
+      λ j l. kill-numbers u ms (nv .asc) (rows-rise s start 0 n rg) lv (omega arith) ws (waits-ordered s wstart [] k wg) m j (omega arith) l ∙ ap (λ (x : ℕ). killsOf ws x (actorOf (getD u j noDot))) mm in
+      rw (z, row) (fits-is lines (λ a. killsOf ws (u32At s p) a) (16 * m) u (clockAt s (p + 4)) (nv .asc) (nc .asc) (positive (clockAt s (p + 4)) nc) kn
+      ∙ ap (λ (b : Bool). covers u (clockAt s (p + 4)) && b) (sym (spared-number ws (rowAt s p) (positive (clockAt s (p + 4)) nc))))
+    where
+      length-members : length (map (λ e. e .member) (rowsAt s start n)) ≡ n
+      length-members = simp (length-map, length-listAt)
+
+      member-at : (m : ℕ) → m < n → getD (map (λ e. e .member) (rowsAt s start n)) m 0 ≡ u32At s (getD (placesAt s start n) m 0)
+      member-at m h = List·getD-map (λ e. e .member) (rowsAt s start n) m (record { member = 0; clock = [] }) ∙ ap (λ (e : Entry). e .member) (place-row s start n m (record { member = 0; clock = [] }) h)
+
+  pub entries-are : fitAll lines s (clockAt s 24) 0 (placesAt s start n) ≡ every (goodEntry R) (rowsAt s start n)
+  entries-are = all-index lines s (clockAt s 24) R (record { member = 0; clock = [] }) 0 start n one
+
+  -- as the check has it
+  pub fit-told : (c : VClock) (places′ : List ℕ) (starts′ t : List ℕ) → c ≡ vclock (clockAt s 24) → places′ ≡ places → starts′ ≡ starts
+      → t ≡ killLines (dotsOf c) (membersOf s places′ n) (waitsOf s starts′ k) (replicate 1024 0)
+      → fitAll t s (dotsOf c) 0 (take n places′) ≡ every (goodEntry R) (rowsAt s start n)
+  fit-told c places′ starts′ t ec ep es et =
+      let v : dotsOf c ≡ clockAt s 24 = ap (λ (x : VClock). dotsOf x) ec ∙ clock-is in
+      let l : t ≡ lines = et ∙ (λ i. killLines (v i) ((ap (λ (x : List ℕ). membersOf s x n) ep ∙ ms-are) i) ((ap (λ (x : List ℕ). waitsOf s x k) es ∙ ws-are) i) (replicate 1024 0)) in
+      (λ i. fitAll (l i) s (v i) 0 ((ap (take n) ep ∙ taken-places) i)) ∙ entries-are
+
+-- ---- the whole check
+
+record Sized (s : List ℕ) : Type 0 where
+  few-entries : u32At s 12 ≤ 64
+  few-waits : u32At s 20 ≤ 16
+  clock-ok : goodClock s 24 ≡ true
+  rows-ok : goodRows s (u32At s 8) 0 (u32At s 12) ≡ true
+  waits-ok : goodWaits s (u32At s 16) [] (u32At s 20) ≡ true
+
+sized : (s : List ℕ) → goodParts s ≡ true → Sized s
+unfolding goodPartsIn
+sized s e =
+    let t : T (goodParts s) = rw e tt in
+    let p = each-from (partsTests narrow full s) (eqb (waitsEnd s (u32At s 16) (u32At s 20)) (length s)) t in
+    let f = contents-few s (true-from (goodContents s) (p .0)) in
+    record {
+      few-entries = f .0;
+      few-waits = f .1;
+      clock-ok = true-from (goodClock s 24) (p .1 .0);
+      rows-ok = true-from (goodRows s (u32At s 8) 0 (u32At s 12)) (p .1 .1 .1 .0);
+      waits-ok = true-from (goodWaits s (u32At s 16) [] (u32At s 20)) (p .1 .1 .1 .1 .1 .0);
+    }
+
+module _ (s : List ℕ) where
+  told : (x : Image) → x ≡ partsImage s → x .good ≡ true → (goodParts s ≡ true) × (x ≡ imageOfBytes s)
+  unfolding partsImage noImage
+  told x e g = picked-true (λ (y : Image). y .good) (goodParts s) x (imageOfBytes s) noImage e refl g
+
+  abbrev Lines : Image → List ℕ → Type 0
+  Lines x t = t ≡ killLines (dotsOf (x .clock)) (membersOf s (x .places) (x .entries)) (waitsOf s (x .starts) (x .waits)) (replicate 1024 0)
+
+  abbrev Fit : Image → List ℕ → Bool → Type 0
+  Fit x t b = b ≡ fitAll t s (dotsOf (x .clock)) 0 (take (x .entries) (x .places))
+
+  entries-told : goodParts s ≡ true → (t : List ℕ) (b : Bool) → Lines (imageOfBytes s) t → Fit (imageOfBytes s) t b → b ≡ every (goodEntry (imageOf s)) (imageOf s .entries)
+  unfolding imageOfBytes imageIn
+  entries-told g t b l f =
+      let z = sized s g in
+      f ∙ fit-told s (u32At s 8) (u32At s 12) (u32At s 16) (u32At s 20) (z .few-entries) (z .few-waits) (z .clock-ok) (z .rows-ok) (z .waits-ok)
+      (vclock (clockAt s 24)) (sets (replicate 64 0) 0 (placesAt s (u32At s 8) (u32At s 12))) (sets (replicate 16 0) 0 (waitPlacesAt s (u32At s 16) (u32At s 20))) t refl refl refl l
+
+  -- what the code may ask of the parts
+  pub few-told : (x : Image) → x ≡ partsImage s → x .good ≡ true → (x .entries ≤ 64) × (x .clock .len ≤ 16)
+  unfolding imageOfBytes imageIn vclock
+  few-told x e g =
+      let r = told x e g in
+      let z = sized s (r .0) in
+      let w = stands s 24 (z .clock-ok) in
+      let q = length-clockAt s 24 in
+      let n : x .entries ≡ u32At s 12 = ap (λ (y : Image). y .entries) (r .1) in
+      let l : x .clock .len ≡ length (clockAt s 24) = ap (λ (y : Image). y .clock .len) (r .1) in
+      (omega (arith, z .few-entries), omega (arith, w .count))
+
+  module _ (x : Image) (e : x ≡ partsImage s) (g : x .good ≡ true) (t : List ℕ) (b : Bool) (l : Lines x t) (f : Fit x t b) where
+    fit : b ≡ every (goodEntry (imageOf s)) (imageOf s .entries)
+    fit = let r = told x e g in entries-told (r .0) t b (subst (λ (y : Image). Lines y t) (r .1) l) (subst (λ (y : Image). Fit y t b) (r .1) f)
+
+    pub check-good : b ≡ true → x ≡ checkImage s
+    unfolding checkImage checksIn
+    check-good y = let r = told x e g in r .1 ∙ sym (rw (checked s, r .0, sym fit ∙ y))
+
+    pub check-unfit : b ≡ false → noImage ≡ checkImage s
+    unfolding checkImage checksIn
+    check-unfit y = let r = told x e g in sym (rw (checked s, r .0, sym fit ∙ y))
+
+  pub check-bad : (x : Image) → x ≡ partsImage s → x .good ≡ false → noImage ≡ checkImage s
+  unfolding checkImage checksIn partsImage imageOfBytes
+  check-bad x e g = let r = picked-false (λ (y : Image). y .good) (goodParts s) x (imageOfBytes s) noImage e refl g in sym (rw (checked s, r))
+
+-- ---- the calls
+
+pub image-good : (s : List ℕ) (x : Image) → x ≡ checkImage s → (b : Bool) → x .good ≡ b → (goodImage s ≡ b) × (x ≡ pick b (imageOfBytes s) noImage)
+unfolding checkImage imageOfBytes noImage
+image-good s x e b g = go (goodImage s) refl e
+  where
+    go : (c : Bool) → goodImage s ≡ c → x ≡ pick c (imageOfBytes s) noImage → (goodImage s ≡ b) × (x ≡ pick b (imageOfBytes s) noImage)
+    go true f u = let h : true ≡ b = sym (ap (λ (y : Image). y .good) u) ∙ g in (f ∙ h, rw (← h) u)
+    go false f u = let h : false ≡ b = sym (ap (λ (y : Image). y .good) u) ∙ g in (f ∙ h, rw (← h) u)

@@ -1,0 +1,153 @@
+-- One turn of the walk of an entry's clock along v, and of the loop over entries; the tests of the contents.
+use Prim.Native.Nat.{ℕ, zero, suc, _+_, _-_, _*_, _≤_, _<_}
+use mathlib.Core.Path.{_≡_, refl, sym, ap, ap₂, _∙_}
+use mathlib.Core.Bool.{Bool, true, false, not, _&&_, and-false, false≢true}
+use mathlib.Core.List.{List, [], _∷_}
+use native.Mathlib.Omega.{arith}
+use native.Mathlib.Nat.{add-zero}
+use native.Mathlib.Numerals.{add-one}
+use lib.Dec.{leb, ltb, eqb}
+use lib.ListN.{length, getD, take}
+use lib.Seq.{slice}
+use borrow.Author.Tests.{le-leb, lt-leb, lt-ltb, le-ltb, eq-eqb, ne-eqb, leb-true, eqb-true}
+use Rattle.tables.specs.Table.{pick}
+use Rattle.tables.specs.Zip.{by-lt}
+use Rattle.dots.specs.declared.Dot.{Dot}
+use Rattle.dots.specs.Dot.{actorOf, noDot}
+use Rattle.dots.specs.Clock.{Clock}
+use Rattle.dots.specs.Rising.{both-left, both-right}
+use Rattle.clocks.proofs.Steps.{ahead, done}
+use Rattle.layout.specs.Fields.{u16At, u32At, u64At}
+use Rattle.layout.specs.Clock.{dotIn, dotAt, dotsAt, clockIn, clockAt}
+use Rattle.layout.specs.Good.{goodContentsIn, goodContents}
+use Rattle.fields.proofs.Steps.{list-step, list-end}
+use Rattle.image.specs.Fits.{within, refused, fits, fitAll}
+
+-- ---- the contents
+
+module _ (s : List ℕ) where
+  pub contents-short : length s < 24 → false ≡ goodContents s
+  unfolding goodContentsIn
+  contents-short h = rw (lt-leb 24 (length s) h)
+
+  pub contents-version : (u16At s 0 ≡ 1 → ⊥) → false ≡ goodContents s
+  unfolding goodContentsIn
+  contents-version h = simp (ne-eqb (u16At s 0) 1 h, and-false)
+
+  pub contents-zero : (u16At s 2 ≡ 0 → ⊥) → false ≡ goodContents s
+  unfolding goodContentsIn
+  contents-zero h = simp (ne-eqb (u16At s 2) 0 h, and-false)
+
+  pub contents-total : (u32At s 4 ≡ length s → ⊥) → false ≡ goodContents s
+  unfolding goodContentsIn
+  contents-total h = simp (ne-eqb (u32At s 4) (length s) h, and-false)
+
+  pub contents-many : 64 < u32At s 12 → false ≡ goodContents s
+  unfolding goodContentsIn
+  contents-many h = simp (lt-leb (u32At s 12) 64 h, and-false)
+
+  pub contents-waits : 24 ≤ length s → u16At s 0 ≡ 1 → u16At s 2 ≡ 0 → u32At s 4 ≡ length s → u32At s 12 ≤ 64 → (x : ℕ) → x ≡ u32At s 20 → leb x 16 ≡ goodContents s
+  unfolding goodContentsIn
+  contents-waits a b c d e x f = rw (f, le-leb 24 (length s) a, eq-eqb (u16At s 0) 1 b, eq-eqb (u16At s 2) 0 c, eq-eqb (u32At s 4) (length s) d, le-leb (u32At s 12) 64 e)
+
+  pub contents-few : goodContents s ≡ true → (u32At s 12 ≤ 64) × (u32At s 20 ≤ 16)
+  unfolding goodContentsIn
+  contents-few h =
+      let w = leb (u32At s 20) 16 in
+      let n = leb (u32At s 12) 64 in
+      let t = eqb (u32At s 4) (length s) in
+      let z = eqb (u16At s 2) 0 in
+      let v = eqb (u16At s 0) 1 in
+      let h1 = both-right (leb 24 (length s)) (v && (z && (t && (n && w)))) h in
+      let h2 = both-right v (z && (t && (n && w))) h1 in
+      let h3 = both-right z (t && (n && w)) h2 in
+      let h4 = both-right t (n && w) h3 in
+      (leb-true (u32At s 12) 64 (both-left n w h4), leb-true (u32At s 20) 16 (both-right n w h4))
+
+-- ---- one dot
+
+not-lt : (a b : ℕ) → not (ltb a b) ≡ leb b a
+not-lt a b = by-lt a b (λ h. rw (lt-ltb a b h, lt-leb b a h)) (λ h. rw (le-ltb a b h, le-leb b a h))
+
+module _ (s : List ℕ) (p : ℕ) (d : Dot) (line : ℕ) where
+  pub refused-line : u32At s p ≡ actorOf d → (c : ℕ) → c ≡ u64At s (p + 4) → c ≤ d .counter → leb c line ≡ refused s p d line
+  unfolding refused
+  refused-line e c f h =
+      let k : u64At s (p + 4) ≤ d .counter = omega arith in
+      rw (f, eq-eqb (u32At s p) (actorOf d) e, le-leb (u64At s (p + 4)) (d .counter) k) (sym (not-lt line (u64At s (p + 4))))
+
+  pub refused-above : u32At s p ≡ actorOf d → (c : ℕ) → c ≡ u64At s (p + 4) → d .counter < c → true ≡ refused s p d line
+  unfolding refused
+  refused-above e c f h =
+      let k : d .counter < u64At s (p + 4) = omega arith in
+      rw (eq-eqb (u32At s p) (actorOf d) e, lt-leb (u64At s (p + 4)) (d .counter) k)
+
+  pub refused-other : (u32At s p ≡ actorOf d → ⊥) → false ≡ refused s p d line
+  unfolding refused
+  refused-other n = rw (ne-eqb (u32At s p) (actorOf d) n)
+
+-- ---- a turn along v
+
+module _ (t s : List ℕ) (v : List Dot) (n i q p left : ℕ) where
+  abbrev ahead-fits : Bool
+  ahead-fits = fits t q (slice i n v) (dotsAt s p left)
+
+  pub fits-end : n ≤ i → eqb left 0 ≡ ahead-fits
+  unfolding fits
+  fits-end h = by-lt 0 left
+      (λ k. rw (done v i n h, list-step dotAt (λ s p. p + 12) s p left (left - 1) (omega arith), ne-eqb left 0 (λ z. omega arith)))
+      (λ k. let z : left ≡ 0 = omega arith in rw (done v i n h, list-end dotAt (λ s p. p + 12) s p left k, eq-eqb left 0 z))
+
+  module _ (h : i < n) (k : n ≤ length v) where
+    pub fits-none : left ≤ 0 → true ≡ ahead-fits
+    unfolding fits
+    fits-none z = rw (ahead v i n noDot h k, list-end dotAt (λ s p. p + 12) s p left z)
+
+    module _ (l : 0 < left) where
+      first : dotsAt s p left ≡ dotAt s p ∷ dotsAt s (p + 12) (left - 1)
+      first = list-step dotAt (λ s p. p + 12) s p left (left - 1) (omega arith)
+
+      abbrev d : Dot
+      d = getD v i noDot
+
+      turn : ahead-fits ≡ pick (eqb (u32At s p) (actorOf d)) (within (u64At s (p + 4)) d (getD t q 0) && fits t (suc q) (slice (i + 1) n v) (dotsAt s (p + 12) (left - 1))) (fits t (suc q) (slice (i + 1) n v) (dotsAt s p left))
+      unfolding fits dotIn
+      turn = rw (ahead v i n noDot h k, first)
+
+      pub fits-refused : (b : Bool) → b ≡ refused s p d (getD t q 0) → b ≡ true → false ≡ ahead-fits
+      unfolding refused
+      fits-refused b e y = sym (turn ∙ go (eqb (u32At s p) (actorOf d)) (within (u64At s (p + 4)) d (getD t q 0)) (sym e ∙ y))
+        where
+          go : (a w : Bool) → (a && not w) ≡ true → pick a (w && fits t (suc q) (slice (i + 1) n v) (dotsAt s (p + 12) (left - 1))) (fits t (suc q) (slice (i + 1) n v) (dotsAt s p left)) ≡ false
+          go true true u = absurd (false≢true u)
+          go true false u = refl
+          go false w u = absurd (false≢true u)
+
+      pub fits-turn : (b : Bool) → b ≡ refused s p d (getD t q 0) → b ≡ false → (one : ℕ) → one ≡ pick (eqb (u32At s p) (actorOf d)) 1 0
+          → fits t (q + 1) (slice (i + 1) n v) (dotsAt s (p + 12 * one) (left - one)) ≡ ahead-fits
+      unfolding refused
+      fits-turn b e y one f = sym (turn ∙ go (eqb (u32At s p) (actorOf d)) (within (u64At s (p + 4)) d (getD t q 0)) (sym e ∙ y) f)
+        where
+          go : (a w : Bool) → (a && not w) ≡ false → one ≡ pick a 1 0
+              → pick a (w && fits t (suc q) (slice (i + 1) n v) (dotsAt s (p + 12) (left - 1))) (fits t (suc q) (slice (i + 1) n v) (dotsAt s p left))
+              ≡ fits t (q + 1) (slice (i + 1) n v) (dotsAt s (p + 12 * one) (left - one))
+          go true true u g = let x : p + 12 * one ≡ p + 12 = omega arith in rw (x, g, add-one q)
+          go true false u g = absurd (false≢true (sym u))
+          go false w u g = let x : p + 12 * one ≡ p = omega arith in let z : left - one ≡ left = omega arith in rw (x, z, add-one q)
+
+-- ---- a turn over the entries
+
+module _ (t s : List ℕ) (v : Clock) (places : List ℕ) (n i p : ℕ) (h : i < n) (k : n ≤ length places) (e : p ≡ getD places i 0) (b : Bool) (f : b ≡ fits t (16 * i) v (clockAt s (p + 4))) where
+  turn-all : fitAll t s v i (slice i n places) ≡ (fits t (16 * i) v (clockAt s (p + 4)) && fitAll t s v (i + 1) (slice (i + 1) n places))
+  unfolding fitAll
+  turn-all = rw (ahead places i n 0 h k, ← e, add-one i)
+
+  pub all-turn : b ≡ true → fitAll t s v (i + 1) (slice (i + 1) n places) ≡ fitAll t s v i (slice i n places)
+  all-turn y = sym (turn-all ∙ rw (sym f ∙ y))
+
+  pub all-stop : b ≡ false → false ≡ fitAll t s v i (slice i n places)
+  all-stop y = sym (turn-all ∙ rw (sym f ∙ y))
+
+pub all-end : (t s : List ℕ) (v : Clock) (places : List ℕ) (n i : ℕ) → n ≤ i → true ≡ fitAll t s v i (slice i n places)
+unfolding fitAll
+all-end t s v places n i h = rw (done places i n h)

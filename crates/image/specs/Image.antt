@@ -1,0 +1,47 @@
+-- What the check of an image answers: "the lent image is exactly its total length", and all of well-formed.
+use Prim.Native.Nat.{ℕ}
+use mathlib.Core.Path.{_≡_}
+use mathlib.Core.Bool.{Bool, true, false}
+use mathlib.Core.List.{List, []}
+use lib.ListN.{replicate}
+use lib.Seq.{sets}
+use Rattle.tables.specs.Table.{pick}
+use Rattle.clocks.specs.declared.VClock.{VClock}
+use Rattle.clocks.specs.VClock.{vclock}
+use Rattle.replica.specs.Replica.{Replica}
+use Rattle.layout.specs.Rows.{placesAt, waitPlacesAt}
+use Rattle.layout.specs.Image.{entriesStart, entriesCount, waitsStart, waitsCount, imageOf, goodImage}
+use Rattle.layout.specs.Good.{goodParts}
+use Rattle.image.specs.declared.Image.{Image}
+use Rattle.image.specs.declared.ClockAnswer.{ClockAnswer}
+
+-- "A refusal .. carries empty clocks, `false` .. and zeros"
+unfoldable pub noImage : Image
+noImage = record { good = false; clock = vclock []; entries = 0; places = replicate 64 0; waits = 0; starts = replicate 16 0 }
+
+-- the clock, how many entries and waiting removes there are, and where each stands
+unfoldable pub imageOfBytes : List ℕ → Image
+imageOfBytes s = record {
+  good = true;
+  clock = vclock (imageOf s .clock);
+  entries = entriesCount s;
+  places = sets (replicate 64 0) 0 (placesAt s (entriesStart s) (entriesCount s));
+  waits = waitsCount s;
+  starts = sets (replicate 16 0) 0 (waitPlacesAt s (waitsStart s) (waitsCount s));
+}
+
+unfoldable pub checkImage : List ℕ → Image
+checkImage s = pick (goodImage s) (imageOfBytes s) noImage
+
+-- the parts alone, without what entries owe to the clock and to the waiting removes
+unfoldable pub partsImage : List ℕ → Image
+partsImage s = pick (goodParts s) (imageOfBytes s) noImage
+
+-- ---- the calls
+
+-- "1: the first replica isn't a well-formed image"
+unfoldable pub checkCall : List ℕ → ℕ
+checkCall s = pick (goodImage s) 0 1
+
+unfoldable pub clockCall : List ℕ → ClockAnswer
+clockCall s = pick (goodImage s) (record { no = 0; clock = vclock (imageOf s .clock) }) (record { no = 1; clock = vclock [] })

@@ -1,0 +1,236 @@
+// Replica images: the check of any bytes, in one pass over them, and what the calls go by.
+ghost use mathlib.Core.Path.{_≡_};
+ghost use mathlib.Core.Bool.{Bool, true, not, _&&_};
+ghost use Prim.Native.Nat.{ℕ, _+_, _*_, _<_, _≤_};
+ghost use lib.Dec.{eqb, leb, ltb};
+ghost use lib.ListN.{length, take};
+ghost use Rattle.tables.specs.Table.{pick};
+ghost use Rattle.dots.specs.Dot.{actorOf};
+ghost use Rattle.clocks.specs.VClock.{dotsOf};
+ghost use Rattle.layout.specs.Fields.{u32At, u64At};
+ghost use Rattle.layout.specs.Clock.{clockAt};
+ghost use Rattle.layout.specs.Good.{goodContents};
+ghost use Rattle.image.specs.Image.{checkImage, partsImage, noImage, checkCall, clockCall};
+ghost use Rattle.image.specs.Fits.{refused, fits, fitAll};
+use clocks::VClock;
+use dots::Dot;
+use fields::clock_at;
+use fields::u16_at;
+use fields::u32_at;
+use fields::u64_at;
+
+// What an image holds: its clock, how many entries and waiting removes, and where each stands. All zero where it isn't well-formed.
+pub struct Image {
+    pub good: bool,
+    pub clock: VClock,
+    pub entries: usize,
+    pub places: [u32; 64],
+    pub waits: usize,
+    pub starts: [u32; 16],
+}
+
+// A replica's clock, or a refusal.
+pub struct ClockAnswer {
+    pub no: u32,
+    pub clock: VClock,
+}
+
+fn wide(x: u32) -> usize
+    ensures { λ r. ⌜ (r ≡ x) × (r < 4294967296) ⌝ }
+{
+    x as usize
+}
+
+fn no_image() -> Image
+    ensures { λ r. ⌜ r ≡ noImage ⌝ }
+{
+    let clock = VClock::new();
+    Image {
+        good: false,
+        clock,
+        entries: 0,
+        places: [0u32; 64],
+        waits: 0,
+        starts: [0u32; 16],
+    }
+}
+
+// Whether the contents are right: version, zero, total length (which 32 bits can count), and counts within the limits.
+fn contents_good(s: &[u8]) -> bool
+    ensures { λ r. ⌜ (r ≡ goodContents (now (s .entry))) × (r ≡ true → length (now (s .entry)) ≤ 4294967295) ⌝ }
+{
+    if s.len() < 24 {
+        return false;
+    }
+    if u16_at(s, 0) != 1 {
+        return false;
+    }
+    if u16_at(s, 2) != 0 {
+        return false;
+    }
+    if wide(u32_at(s, 4)) != s.len() {
+        return false;
+    }
+    if 64 < u32_at(s, 12) {
+        return false;
+    }
+    u32_at(s, 20) <= 16
+}
+
+// The parts, one after the other, with no gap, up to the end.
+fn parts(s: &[u8]) -> Image
+    ensures { λ r. ⌜ r ≡ partsImage (now (s .entry)) ⌝ }
+{
+    if contents_good(s) {
+        let start = scan::clock_ends(s, 24);
+        if start == 0 {
+            return no_image();
+        }
+        if wide(u32_at(s, 8)) != start {
+            return no_image();
+        }
+        let entries = wide(u32_at(s, 12));
+        let t = scan::check_rows(s, start, entries);
+        if t.good {
+            if wide(u32_at(s, 16)) != t.next {
+                return no_image();
+            }
+            let waits = wide(u32_at(s, 20));
+            let w = scan::check_waits(s, t.next, waits);
+            if w.good {
+                if w.next != s.len() {
+                    return no_image();
+                }
+                let clock = clock_at(s, 24);
+                let places = t.places;
+                let starts = w.places;
+                Image {
+                    good: true,
+                    clock,
+                    entries,
+                    places,
+                    waits,
+                    starts,
+                }
+            } else {
+                no_image()
+            }
+        } else {
+            no_image()
+        }
+    } else {
+        no_image()
+    }
+}
+
+// Whether the dot at a place is of the actor of d, and its counter is above d's or not above the line.
+fn refuses(s: &[u8], p: usize, d: Dot, line: u64) -> bool
+    requires { ⌜ p < 281474976710656 ⌝ }
+    ensures { λ r. ⌜ r ≡ refused (now (s .entry)) p d line ⌝ }
+{
+    if u32_at(s, p) == d.actor.0 {
+        let c = u64_at(s, p + 4);
+        if c <= d.counter { c <= line } else { true }
+    } else {
+        false
+    }
+}
+
+// 1 where the dot at a place is of the actor, and 0 where not.
+fn step(s: &[u8], p: usize, actor: u32) -> usize
+    ensures { λ r. ⌜ (r ≡ pick (eqb (u32At (now (s .entry)) p) actor) 1 0) × (r ≤ 1) ⌝ }
+{
+    if u32_at(s, p) == actor { 1 } else { 0 }
+}
+
+// Whether v covers the clock at a place, and each of its dots is above its number of the line from `from` on: one walk along v.
+fn row_fits(s: &[u8], at: usize, v: VClock, lines: &[u64; 1024], from: usize) -> bool
+    requires { ⌜ (at < 70368744177664) × (v .len ≤ 16) × (from ≤ 1008) ⌝ }
+    ensures { λ r. ⌜ r ≡ fits (now (lines .entry)) from (dotsOf v) (clockAt (now (s .entry)) at) ⌝ }
+{
+    let n = v.len;
+    let mut p = at + 4;
+    let mut left = wide(u32_at(s, at));
+    let mut i: usize = 0;
+    while i < n {
+        if left == 0 {
+            return true;
+        }
+        let d = v.dots[i];
+        if refuses(s, p, d, lines[from + i]) {
+            return false;
+        }
+        let one = step(s, p, d.actor.0);
+        p += 12 * one;
+        left -= one;
+        i += 1;
+    }
+    left == 0
+}
+
+// The same for each of the n entries, with its own line.
+fn entries_fit(s: &[u8], places: [u32; 64], n: usize, v: VClock, lines: &[u64; 1024]) -> bool
+    requires { ⌜ (n ≤ 64) × (v .len ≤ 16) ⌝ }
+    ensures { λ r. ⌜ r ≡ fitAll (now (lines .entry)) (now (s .entry)) (dotsOf v) 0 (take n places) ⌝ }
+{
+    let mut i: usize = 0;
+    while i < n {
+        if row_fits(s, wide(places[i]) + 4, v, lines, 16 * i) {
+            i += 1;
+        } else {
+            return false;
+        }
+    }
+    true
+}
+
+// Any bytes of any length: what they hold, if they are the image of a well-formed replica.
+pub fn check(img: &[u8]) -> Image
+    ensures { λ r. ⌜ r ≡ checkImage (now (img .entry)) ⌝ }
+{
+    let x = parts(img);
+    if x.good {
+        let places = x.places;
+        let starts = x.starts;
+        let clock = x.clock;
+        let mut lines = [0u64; 1024];
+        kills::kill_lines(
+            img,
+            places,
+            x.entries,
+            img,
+            starts,
+            x.waits,
+            clock,
+            &mut lines,
+        );
+        if entries_fit(img, places, x.entries, clock, &lines) {
+            x
+        } else {
+            no_image()
+        }
+    } else {
+        no_image()
+    }
+}
+
+// 0 where the bytes are the image of a well-formed replica, and 1 where not.
+pub fn check_image(img: &[u8]) -> u32
+    ensures { λ r. ⌜ r ≡ checkCall (now (img .entry)) ⌝ }
+{
+    let x = check(img);
+    if x.good { 0 } else { 1 }
+}
+
+// The replica's clock. Refuses 1.
+pub fn clock(img: &[u8]) -> ClockAnswer
+    ensures { λ r. ⌜ r ≡ clockCall (now (img .entry)) ⌝ }
+{
+    let x = check(img);
+    let clock = x.clock;
+    if x.good {
+        ClockAnswer { no: 0, clock }
+    } else {
+        ClockAnswer { no: 1, clock }
+    }
+}

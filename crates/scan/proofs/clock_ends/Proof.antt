@@ -1,0 +1,38 @@
+use Rattle.scan.proofs.Steps.{clock-short, clock-many, clock-no-room, clock-stands, clock-falls}
+use Rattle.layout.specs.Fields.{u32At}
+use native.Mathlib.Omega.{arith}
+use mathlib.Core.Path.{_≡_, refl, sym, ap, _∙_}
+use borrow.Author.Needs.{needs}
+use Rattle.scan.proofs.clock_ends.Statement.{statement}
+use Rattle.scan.proofs.clock_ends.Tie as tie
+
+returns : tie.Need-returns
+returns c = let a = c .before .before .args in clock-short (a .s .now) (a .at) (omega arith)
+
+returns-2 : tie.Need-returns-2
+returns-2 c = let a = c .before .before .before .args in clock-short (a .s .now) (a .at) (omega arith)
+
+returns-3 : tie.Need-returns-3
+returns-3 c = let a = c .before .before .before .before .before .before .args in clock-many (a .s .now) (a .at) (omega arith)
+
+returns-4 : tie.Need-returns-4
+returns-4 c = let a = c .before .before .before .before .before .before .before .args in clock-no-room (a .s .now) (a .at) (omega arith)
+
+returns-5 : tie.Need-returns-5
+returns-5 c =
+    let a = c .before .before .before .before .before .before .before .before .before .args in
+    let e : c .before .before .before .before .wide .result ≡ u32At (a .s .now) (a .at) = c .before .before .before .before .wide .ensures .0 ∙ c .before .before .before .before .before .u32-at .ensures in
+    rw e (clock-stands (a .s .now) (a .at) (omega arith) (omega arith) _ (rw e at (c .before .dots-rise .ensures)) (c .if5 .taken))
+
+returns-6 : tie.Need-returns-6
+returns-6 c =
+    let a = c .before .before .before .before .before .before .before .before .before .args in
+    let e : c .before .before .before .before .wide .result ≡ u32At (a .s .now) (a .at) = c .before .before .before .before .wide .ensures .0 ∙ c .before .before .before .before .before .u32-at .ensures in
+    clock-falls (a .s .now) (a .at) _ (rw e at (c .before .dots-rise .ensures)) (c .if5 .left)
+
+pub clock-ends-spec : {M : Type 1} → statement M
+clock-ends-spec =
+    tie.close
+    (tie.spec returns (λ c. search needs) returns-2 (λ c κs. search needs) (λ c κs. search needs) returns-3
+    (λ c. search needs) (λ c. search needs) returns-4 (λ c. search needs) (λ c κs. search needs) (λ c. search needs)
+    (λ c. search needs) (λ c. search needs) returns-5 returns-6)

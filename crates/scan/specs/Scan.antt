@@ -1,0 +1,51 @@
+-- What the checks of an image's parts answer: the place after what stands at a place, and 0 where it does not stand.
+use Prim.Native.Nat.{ℕ, _+_, _*_}
+use mathlib.Core.Bool.{Bool, true, false, _&&_}
+use mathlib.Core.List.{List, []}
+use lib.Dec.{leb, ltb}
+use lib.ListN.{length, replicate}
+use lib.Seq.{sets}
+use Rattle.tables.specs.Table.{pick}
+use Rattle.tables.specs.Ascending.{isLt}
+use Rattle.dots.specs.Clock.{Clock, cmpClock}
+use Rattle.layout.specs.Fields.{u32At}
+use Rattle.layout.specs.Clock.{clockAt, clockEnd, narrow}
+use Rattle.layout.specs.Rows.{rowEnd, placesAt, rowsEnd, waitEnd, waitPlacesAt, waitsEnd}
+use Rattle.replica.specs.Limits.{full}
+use Rattle.layout.specs.Good.{goodClock, goodMembers, goodRows, goodWaits, chain, rowTests, waitTests}
+use Rattle.scan.specs.declared.Table.{Table}
+use Rattle.scan.specs.declared.Waits.{Waits}
+
+unfoldable pub clockEnds : List ℕ → ℕ → ℕ
+clockEnds s at = pick (goodClock s at) (clockEnd s at) 0
+
+unfoldable pub membersEnd : List ℕ → ℕ → ℕ
+membersEnd s q = pick (goodMembers s q) (q + (4 + 4 * u32At s q)) 0
+
+-- an entry whose member is at least low, and whose clock is not empty
+unfoldable pub rowEnds : List ℕ → ℕ → ℕ → ℕ
+rowEnds s p low = pick (chain (rowTests narrow full s p low) true) (rowEnd s p) 0
+
+-- a waiting remove whose clock is after `last`
+unfoldable pub waitEnds : List ℕ → ℕ → Clock → ℕ
+waitEnds s p last = pick (chain (waitTests narrow full s p last) true) (waitEnd s p) 0
+
+-- ---- several, one after the other
+
+unfoldable pub noTable : Table
+noTable = record { good = false; next = 0; places = replicate 64 0 }
+
+unfoldable pub noWaits : Waits
+noWaits = record { good = false; next = 0; places = replicate 16 0 }
+
+-- places are 32-bit numbers inside the bytes
+abbrev pub inside : List ℕ → ℕ → Bool
+inside s at = leb (length s) 4294967295 && leb at (length s)
+
+unfoldable pub rowsTable : List ℕ → ℕ → ℕ → Table
+rowsTable s at n =
+    pick (leb n 64 && (inside s at && goodRows s at 0 n)) (record { good = true; next = rowsEnd s at n; places = sets (replicate 64 0) 0 (placesAt s at n) }) noTable
+
+unfoldable pub waitsTable : List ℕ → ℕ → ℕ → Waits
+waitsTable s at n =
+    pick (leb n 16 && (inside s at && goodWaits s at [] n)) (record { good = true; next = waitsEnd s at n; places = sets (replicate 16 0) 0 (waitPlacesAt s at n) }) noWaits
