@@ -34,11 +34,11 @@ returns-6 c = let e : c .before .before .before .args .rule ≡ Same = cc in rw 
 
 returns-7 : tie.Need-returns-7
 unfolding ruleOf
-returns-7 c = let e : c .before .before .before .args .rule ≡ Beyond = cc in rw (e, beyond, le-leb (c .before .before .before .args .x) (c .before .before .before .args .y) (c .if4 .taken))
+returns-7 c = let e : c .before .before .before .args .rule ≡ Beyond = cc in rw (e, beyond, le-leb (c .before .before .before .args .x) (c .before .before .before .args .y) (omega arith))
 
 returns-8 : tie.Need-returns-8
 unfolding ruleOf
-returns-8 c = let e : c .before .before .before .args .rule ≡ Beyond = cc in rw (e, beyond, lt-leb (c .before .before .before .args .x) (c .before .before .before .args .y) (c .if4 .left))
+returns-8 c = let e : c .before .before .before .args .rule ≡ Beyond = cc in rw (e, beyond, lt-leb (c .before .before .before .args .x) (c .before .before .before .args .y) (omega arith))
 
 pub ruled-spec : {M : Type 1} → statement M
 ruled-spec =
