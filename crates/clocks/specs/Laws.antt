@@ -1,6 +1,6 @@
 -- What the promises of the calls on clocks give: one answer each, normalised results, the counters of each result, the laws of merging,
 -- what a comparison says, and the marked cases 1 to 4.
-use Prim.Native.Nat.{ℕ, _≤_, max, min}
+use Prim.Native.Nat.{ℕ, zero, suc, _≤_, max, min}
 use mathlib.Core.Path.{_≡_, refl, sym, ap, _∙_}
 use mathlib.Core.Bool.{Bool, true, false, not, false≢true}
 use mathlib.Core.Option.{Option, none, some}
@@ -8,9 +8,10 @@ use mathlib.Core.List.{[], _∷_}
 use native.Mathlib.Omega.{arith}
 use lib.Dec.{eqb}
 use lib.ListN.{length, length-take}
-use borrow.Author.Tests.{ltb-false, le-ltb}
+use borrow.Author.Tests.{ltb-false, le-ltb, ne-eqb}
 use Rattle.tables.specs.Table.{Normal, every, pick}
 use Rattle.tables.specs.Ascending.{ascending, before}
+use Rattle.tables.specs.Zip.{zip}
 use Rattle.tables.specs.Refusal.{firstOf, done-right}
 use Rattle.dots.specs.declared.Dot.{Dot}
 use Rattle.dots.specs.declared.DotRange.{DotRange}
@@ -18,7 +19,7 @@ use Rattle.dots.specs.declared.Comparison.the-variants.{Greater, None}
 use Rattle.dots.specs.Dot.{actorOf, clocks, dot}
 use Rattle.dots.specs.Calls.{means-one}
 use Rattle.dots.specs.Clock.{Clock, count, normal, covers, merged, applied, resetBy, intersection, glb}
-use Rattle.dots.specs.ClockLaws.{merged-count, merged-normal, reset-count, reset-normal}
+use Rattle.dots.specs.ClockLaws.{clock-ext, merged-count, merged-normal, reset-count, reset-normal}
 use Rattle.dots.specs.ClockOrder.{merged-comm, merged-assoc, merged-self, SaysOf, compared-says}
 use Rattle.dots.specs.Ruled.{same, beyond, applied-normal, applied-count, applied-covered, glb-normal, glb-count, glb-length, intersection-normal, intersection-count, intersection-length, reset-length}
 use Rattle.clocks.specs.declared.VClock.{VClock}
@@ -28,7 +29,7 @@ use Rattle.clocks.specs.declared.OpValidation.{OpValidation}
 use Rattle.clocks.specs.declared.OpValidation.the-variants.{Valid, Refused, Gap}
 use Rattle.clocks.specs.declared.Nth.{Nth}
 use Rattle.clocks.specs.declared.Nth.the-variants.{At, Past, Refused as NthRefused}
-use Rattle.clocks.specs.VClock.{dotsOf, vclock, unused, normalised, each, swapped, few, dots-normal, dots-vclock, vclock-dots, vclock-normalised}
+use Rattle.clocks.specs.VClock.{same-dots, dotsOf, vclock, unused, normalised, each, swapped, few, dots-normal, dots-vclock, vclock-dots, vclock-normalised}
 use Rattle.clocks.specs.Calls.{unfit, crowded, clockAnswer, Compared, Validated, Placed, applyCall, mergeCall, resetCall, intersectionCall, glbCall, comparisonSays, compareCall, validationSays, nthSays}
 
 -- ---- one answer: any two answers that a promise allows are equal
@@ -211,6 +212,16 @@ compare-says a b r p e =
     let n = each a b e in
     compared-says (r .order) (dotsOf a) (dotsOf b) (dots-normal a (n .0)) (dots-normal b (n .1)) (simp e at (ap (λ (c : Compared). c .stands) p))
 
+-- ---- two normalised clocks with the same counters are the same; a refusal carries the empty clock
+
+pub same-counters : (a b : VClock) → length (a .dots) ≡ 16 → length (b .dots) ≡ 16 → normalised a ≡ true → normalised b ≡ true
+    → ((x : ℕ) → count (dotsOf a) x ≡ count (dotsOf b) x) → a ≡ b
+same-counters a b la lb na nb e = same-dots a b la lb na nb (clock-ext (dotsOf a) (dotsOf b) (dots-normal a na) (dots-normal b nb) e)
+
+pub refused-empty : (n : ℕ) (c : Clock) → (n ≡ 0 → ⊥) → clockAnswer n c .clock ≡ vclock []
+unfolding clockAnswer
+refused-empty n c h = rw (ne-eqb n 0 h)
+
 -- ---- the marked cases 1 to 4
 
 -- 1. {1:1} against {}: Greater. 2. {1:1} against {2:1}: none.
@@ -235,3 +246,20 @@ case-3-kept = refl
 pub case-4 : intersectionCall (vclock (dot 1 2 ∷ dot 2 3 ∷ [])) (vclock (dot 1 2 ∷ dot 2 4 ∷ [])) ≡ record { no = 0; clock = vclock (dot 1 2 ∷ []) }
 unfolding intersectionCall clockAnswer firstOf normalised normal unused vclock intersection ascending before
 case-4 = refl
+
+-- "16 actors granted, a 17th refused with 6"; a dot with counter 0 is granted even there
+abbrev upTo : ℕ → ℕ → Clock
+upTo a zero = []
+upTo a (suc n) = dot a 1 ∷ upTo (suc a) n
+
+pub limit-granted : applyCall (vclock (upTo 1 15)) (dot 16 1) ≡ record { no = 0; clock = vclock (upTo 1 16) }
+unfolding applyCall clockAnswer firstOf normalised normal unused vclock applied merged zip ascending before
+limit-granted = refl
+
+pub limit-refused : applyCall (vclock (upTo 1 16)) (dot 17 1) ≡ record { no = 6; clock = vclock [] }
+unfolding applyCall clockAnswer firstOf normalised normal unused vclock applied merged zip ascending before
+limit-refused = refl
+
+pub limit-nothing : applyCall (vclock (upTo 1 16)) (dot 17 0) ≡ record { no = 0; clock = vclock (upTo 1 16) }
+unfolding applyCall clockAnswer firstOf normalised normal unused vclock applied merged zip ascending before
+limit-nothing = refl
