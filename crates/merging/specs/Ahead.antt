@@ -29,6 +29,7 @@ abbrev pub hits : ℕ → ℕ → ℕ
 hits key low = pick (eqb key low) 1 0
 
 pub record Met (s : List ℕ) (p n key r : ℕ) : Type 0 where
+  pub small : key < 4294967296
   pub is : key < 4294967296 → r ≡ hits (keyAhead s p n) key
   pub one : r ≤ 1
   pub fits : r ≤ n

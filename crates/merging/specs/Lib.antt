@@ -3,4 +3,5 @@ pub mod Entries
 pub mod Keeping
 pub mod Rowing
 pub mod Waits
+pub mod Waiting
 pub mod Merge

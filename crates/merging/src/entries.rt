@@ -43,7 +43,7 @@ fn keep(la: u64, lb: u64, u: u64, w: u64) -> u64
 }
 
 // The counter of the dot at a place, where it is met; 0 where not.
-fn counter_at(s: &[u8], at: usize, met: usize) -> u64
+pub(crate) fn counter_at(s: &[u8], at: usize, met: usize) -> u64
     requires { ⌜ at < 1099511627776 ⌝ }
     ensures { λ r. ⌜ r ≡ pick (eqb met 0) 0 (u64At (now (s .entry)) (at + 4)) ⌝ }
 {

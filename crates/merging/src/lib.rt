@@ -1,3 +1,4 @@
 // The merge of two replica images.
 mod ahead;
 mod entries;
+mod waits;
