@@ -12,6 +12,8 @@ const GUARD: usize = 16;
 
 #[derive(Default)]
 struct Judge {
+    /// The text of docs/DIFFERENCES.md.
+    page: String,
     calls: u64,
     /// How often each call gave each number.
     numbers: BTreeMap<(Name, u32), u64>,
@@ -39,13 +41,13 @@ impl Judge {
             println!("  crate: {}", expected.line());
             println!("  library: {:x} {:x}{}", reply.number, reply.length, if lent != should { ", other bytes" } else { "" });
             if self.unexplained == 10 {
-                self.report("");
+                self.report();
             }
         }
     }
 
     /// Prints what was met and ends the program.
-    fn report(&self, differences: &str) -> ! {
+    fn report(&self) -> ! {
         println!("\n{:16} calls by number", "call");
         for name in Name::ALL {
             let given = self.numbers.iter().filter(|((n, _), _)| *n == name);
@@ -55,7 +57,7 @@ impl Judge {
         println!("\ndifferences of docs/DIFFERENCES.md");
         let mut unnamed = 0;
         for (name, times) in &self.met.0 {
-            let named = differences.contains(&format!("| {name} |"));
+            let named = self.page.contains(&format!("| {name} |"));
             unnamed += !named as u64;
             println!("{times:10} {name}{}", if named { "" } else { " (not on that page)" });
         }
@@ -68,9 +70,9 @@ fn main() {
     let words: Vec<String> = std::env::args().skip(1).collect();
     let long = words.iter().any(|w| w == "long");
     let page = words.iter().find(|w| *w != "long").expect("the path of docs/DIFFERENCES.md");
-    let differences = std::fs::read_to_string(page).expect("docs/DIFFERENCES.md can be read");
+    let page = std::fs::read_to_string(page).expect("docs/DIFFERENCES.md can be read");
     let times = if long { 50 } else { 1 };
-    let mut judge = Judge::default();
+    let mut judge = Judge { page, ..Default::default() };
     let mut random = Random(1);
     worlds::marked_cases(&mut |call| judge.judge(call));
     worlds::histories(500 * times, &mut random, &mut |call| judge.judge(call));
@@ -80,5 +82,5 @@ fn main() {
     for world in worlds::SMALL.iter().chain(larger) {
         world.calls(&mut |call| judge.judge(call));
     }
-    judge.report(&differences);
+    judge.report();
 }

@@ -177,10 +177,11 @@ fn main() {
         let room = random.pick(&[0, 3, 15, 16, 19, 20, 27, 28, 100, 196, 256, 18268, 20000]);
         let before = vec![random.next() as u8; room];
         let out = output.bytes(&before);
-        let (image, other) = (first.bytes(&image), second.bytes(&other));
-        let reply = gatelichen::run(name, image, other, actor, counter, list.numbers(&members), out);
+        let (lent_image, lent_other) = (first.bytes(&image), second.bytes(&other));
+        let reply = gatelichen::run(name, lent_image, lent_other, actor, counter, list.numbers(&members), out);
         granted += (reply.number == 0) as u64;
-        if let Some(fault) = fault(name, image, other, members.len(), &before, out, reply) {
+        let changed = (*lent_image != *image || *lent_other != *other).then_some("an input changed");
+        if let Some(fault) = changed.or_else(|| fault(name, &image, &other, members.len(), &before, out, reply)) {
             println!("call {call}: {}: {fault}: {reply:?}", name.text());
             std::process::exit(1);
         }
