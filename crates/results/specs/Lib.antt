@@ -1,2 +1,4 @@
 pub mod Call
 pub mod Laws
+pub mod Finish
+pub mod FinishLaws

@@ -1,7 +1,88 @@
 // What a call that writes a replica answers, and how its result is finished.
+ghost use mathlib.Core.Path.{_≡_};
+ghost use Prim.Native.Nat.{ℕ, _+_, _*_, _<_, _≤_};
+ghost use lib.ListN.{length};
+ghost use lib.Seq.{sets, slice};
+ghost use Rattle.results.specs.Call.{answered};
+ghost use Rattle.results.specs.Finish.{Finished};
+use clocks::VClock;
 
 // The refusal number, or 0 with the length of what was written.
 pub struct Written {
     pub no: u32,
     pub len: usize,
+}
+
+// A result without contents and clock: how many entries and waiting removes it has, the most members that a waiting remove names, where the
+// waiting removes start and where they end.
+pub struct Draft {
+    pub entries: u32,
+    pub waits: u32,
+    pub most: u32,
+    pub middle: u32,
+    pub end: u32,
+}
+
+// A refusal.
+pub fn refused(no: u32) -> Written
+    ensures { λ r. ⌜ r ≡ answered no 0 ⌝ }
+{
+    Written { no, len: 0 }
+}
+
+fn index(x: u32) -> usize
+    ensures { λ r. ⌜ (r ≡ x) × (r < 4294967296) ⌝ }
+{
+    x as usize
+}
+
+// The smaller of two places.
+fn before(x: usize, y: usize) -> usize
+    ensures { λ r. ⌜ (r ≤ x) × (r ≤ y) × (x ≤ y → r ≡ x) × (y ≤ x → r ≡ y) ⌝ }
+{
+    if x < y { x } else { y }
+}
+
+// Writes the bytes of a body from a start up to an end to the same places of the output.
+fn copy(body: &[u8], start: usize, end: usize, out: &mut [u8])
+    requires { ⌜ (start ≤ length (now out)) × (end ≤ length (now out)) ⌝ }
+    ensures { λ _. ⌜ now (out .exit) ≡ sets (now (out .entry)) start (slice start end (now (body .entry))) ⌝ }
+{
+    let stop = before(end, body.len());
+    let mut i = start;
+    while i < stop {
+        out[i] = body[i];
+        i += 1;
+    }
+}
+
+// The result with clock v whose entries and waiting removes stand in the body, where they do in the image: written from byte 0. Refuses 6, 7, 8, 9
+// by the counts, then 10 where the output is shorter than the end.
+pub fn finish(v: VClock, d: Draft, body: &[u8], out: &mut [u8]) -> Written
+    ensures { λ r. ⌜ Finished v d (now (body .entry)) (now (out .entry)) r (now (out .exit)) ⌝ }
+{
+    if 16 < v.len {
+        return refused(6);
+    }
+    if 64 < d.entries {
+        return refused(7);
+    }
+    if 16 < d.waits {
+        return refused(8);
+    }
+    if 32 < d.most {
+        return refused(9);
+    }
+    let end = index(d.end);
+    if out.len() < end {
+        return refused(10);
+    }
+    let start = 28 + 12 * v.len;
+    if end < start {
+        return refused(10);
+    }
+    fields::put_contents(out, d.end, start as u32, d.entries, d.middle, d.waits);
+    fields::put_clock(out, 24, v);
+    copy(body, start, end, out);
+    Written { no: 0, len: end }
 }
