@@ -1,0 +1,1 @@
+// The claims of the library: theorems over the promises of its calls.
