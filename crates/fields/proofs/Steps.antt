@@ -3,19 +3,18 @@ use Prim.Native.Nat.{ℕ, zero, suc, _+_, _-_, _*_, _≤_, _<_, min}
 use mathlib.Core.Path.{_≡_, refl, sym, ap, _∙_}
 use mathlib.Core.List.{List, [], _∷_, _++_}
 use native.Mathlib.Omega.{arith}
-use native.Mathlib.Nat.{add-assoc}
 use native.Mathlib.Numerals.{add-one}
 use lib.ListN.{length, set, take, drop, getD, length-take, length-append, drop-of-length-le, List·getD-eq-default}
-use lib.Seq.{sets, slice-cons, length-sets, set-out, take-all, length-take-le}
+use lib.Seq.{sets, slice-cons, set-out, take-all, length-take-le}
 use Rattle.tables.specs.Stores.{sets-append}
 use Rattle.tables.specs.Zip.{by-lt}
 use Rattle.dots.specs.declared.Dot.{Dot}
 use Rattle.dots.specs.Dot.{noDot, actorOf}
 use Rattle.dots.specs.Clock.{Clock}
 use Rattle.layout.specs.Image.{contents}
-use Rattle.layout.specs.Fields.{u32At, u64At, le16, le32, le64, length-le32, length-le64}
+use Rattle.layout.specs.Fields.{u32At, le16, le32, le64, length-le32, length-le64}
 use Rattle.layout.specs.Lists.{listAt, bytesOf}
-use Rattle.layout.specs.Clock.{dotAt, dotIn, dotsAt, encodeDot, encodeDotIn, encodeDots, encodeClock, encodeClockIn}
+use Rattle.layout.specs.Clock.{dotAt, dotsAt, encodeDotIn, encodeDots, encodeClock, encodeClockIn}
 use Rattle.layout.specs.Rows.{encodeRow, encodeRowIn}
 use Rattle.fields.specs.Read.{clockRead, Put}
 

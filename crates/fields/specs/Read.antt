@@ -1,6 +1,6 @@
 -- What readers answer and writers leave, for bytes of any kind.
-use Prim.Native.Nat.{ℕ, _+_, _≤_, min}
-use mathlib.Core.Path.{_≡_, refl}
+use Prim.Native.Nat.{ℕ, _+_, min}
+use mathlib.Core.Path.{_≡_}
 use mathlib.Core.List.{List}
 use lib.ListN.{length}
 use lib.Seq.{sets}

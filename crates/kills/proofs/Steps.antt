@@ -1,12 +1,12 @@
 -- One turn of each loop, in the code's terms.
-use Prim.Native.Nat.{ℕ, zero, suc, _+_, _-_, _*_, _≤_, _<_, max, min}
-use mathlib.Core.Path.{_≡_, refl, sym, ap, _∙_}
+use Prim.Native.Nat.{ℕ, _+_, _-_, _*_, _≤_, _<_, max, min}
+use mathlib.Core.Path.{_≡_, refl, sym, _∙_}
 use mathlib.Core.Bool.{Bool, true, false}
-use mathlib.Core.Option.{Option, none, some}
-use mathlib.Core.List.{List, [], _∷_, map}
+use mathlib.Core.Option.{none, some}
+use mathlib.Core.List.{List, map}
 use native.Mathlib.Omega.{arith}
 use native.Mathlib.Numerals.{add-one}
-use lib.Dec.{eqb, ltb}
+use lib.Dec.{eqb}
 use lib.ListN.{length, take, drop, set, getD, drop-of-length-le}
 use lib.Seq.{sets, slice, take-all}
 use borrow.Author.Tests.{lt-ltb, le-ltb, eq-eqb, ne-eqb}
@@ -16,14 +16,14 @@ use Rattle.dots.specs.declared.Dot.{Dot}
 use Rattle.dots.specs.Dot.{dots, actorOf, noDot}
 use Rattle.dots.specs.Clock.{Clock}
 use Rattle.clocks.proofs.Steps.{ahead, done, rest}
-use Rattle.replica.specs.Replica.{Wait, memberRows}
+use Rattle.replica.specs.Replica.{memberRows}
 use Rattle.layout.specs.Fields.{u32At, u64At}
 use Rattle.layout.specs.Lists.{listAt}
 use Rattle.layout.specs.Clock.{dotIn, dotAt, dotsAt, clockEnd, clockEndIn}
 use Rattle.layout.specs.Rows.{membersAt}
 use Rattle.fields.specs.Read.{clockRead}
 use Rattle.fields.proofs.Steps.{list-step, list-end}
-use Rattle.kills.specs.Lines.{reach, along, lineOf, raiseFrom, raised, killLines, membersOf, waitRead, waitsOf}
+use Rattle.kills.specs.Lines.{reach, along, lineOf, raiseFrom, raised, killLines, waitRead}
 
 -- ---- rows that stand in bytes one after the other, each beginning with its key
 

@@ -1,5 +1,5 @@
 -- Number j of line i is the kill number of member i and actor j, where members, clocks and waiting removes ascend.
-use Prim.Native.Nat.{ℕ, zero, suc, _+_, _*_, _≤_, _<_, max, min, compare, Ordering, Ordering·lt}
+use Prim.Native.Nat.{ℕ, zero, suc, _+_, _*_, _≤_, _<_, max, compare}
 use mathlib.Core.Path.{_≡_, refl, sym, ap, ap₂, _∙_}
 use mathlib.Core.Bool.{Bool, true, false}
 use mathlib.Core.List.{List, [], _∷_, map}
@@ -10,10 +10,9 @@ use lib.ListN.{length, drop, set, getD, replicate, length-set, length-map, getD-
 use lib.Seq.{sets, sets-eq, getD-set-same, getD-set-other, length-sets}
 use borrow.Author.Tests.{ltb-true, ltb-false}
 use Rattle.tables.specs.Order.{nat-lt, lt-nat}
-use Rattle.tables.specs.Table.{pick, get, Asc, Below, All, Normal}
-use Rattle.tables.specs.Zip.{Rows, kind, said, front, Rise, get-after}
+use Rattle.tables.specs.Table.{pick, get, Asc, Below, All}
+use Rattle.tables.specs.Zip.{Rows, kind, front, Rise, get-after}
 use Rattle.tables.specs.Walk.{said-get}
-use Rattle.dots.specs.declared.Dot.{Dot}
 use Rattle.dots.specs.Dot.{dots, clocks, actorOf, noDot}
 use Rattle.dots.specs.Clock.{Clock, count}
 use Rattle.replica.specs.Replica.{Wait, memberRows, memberSets}

@@ -1,7 +1,6 @@
 -- The table of kill lines: line i has 16 numbers from place 16 i on, one for each actor of a clock v.
-use Prim.Native.Nat.{ℕ, zero, suc, _+_, _*_, max, min}
-use mathlib.Core.Path.{_≡_, refl}
-use mathlib.Core.Bool.{Bool, true, false}
+use Prim.Native.Nat.{ℕ, suc, _+_, _*_, max, min}
+use mathlib.Core.Bool.{Bool}
 use mathlib.Core.List.{List, [], _∷_, map}
 use lib.Dec.{ltb}
 use lib.ListN.{take, set, getD, replicate}

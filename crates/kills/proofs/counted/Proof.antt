@@ -1,6 +1,6 @@
 use Rattle.kills.proofs.Steps.{counted-none, counted-first, counted-other}
 use native.Mathlib.Omega.{arith}
-use mathlib.Core.Path.{_≡_, sym, _∙_}
+use mathlib.Core.Path.{sym, _∙_}
 use borrow.Author.Needs.{needs}
 use Rattle.kills.proofs.counted.Statement.{statement}
 use Rattle.kills.proofs.counted.Tie as tie

@@ -3,11 +3,11 @@ use Rattle.kills.specs.Lines.{killLines, membersOf, waitRead, waitsOf}
 use Rattle.layout.specs.Fields.{u32At}
 use Rattle.clocks.specs.VClock.{dotsOf}
 use lib.Seq.{slice}
-use lib.ListN.{length, take, getD}
+use lib.ListN.{length, take}
 use native.Mathlib.Omega.{arith}
-use Prim.Native.Nat.{ℕ, _+_, _*_, _-_, _≤_, _<_, min}
+use Prim.Native.Nat.{_-_, _≤_}
 use mathlib.Core.List.{map}
-use mathlib.Core.Path.{_≡_, refl, sym, ap, _∙_}
+use mathlib.Core.Path.{_≡_, refl, sym, _∙_}
 use borrow.Author.Needs.{needs}
 use Rattle.kills.proofs.kill_lines.Statement.{statement}
 use Rattle.kills.proofs.kill_lines.Tie as tie

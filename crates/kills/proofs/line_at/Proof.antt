@@ -8,9 +8,9 @@ use Rattle.dots.specs.Dot.{dots, actorOf}
 use lib.Seq.{sets, slice}
 use lib.ListN.{length, take, length-set, replicate}
 use native.Mathlib.Omega.{arith}
-use Prim.Native.Nat.{ℕ, _+_, _*_, _-_, _≤_, _<_, min}
+use Prim.Native.Nat.{_+_, _*_, _-_, _≤_, min}
 use mathlib.Core.List.{map}
-use mathlib.Core.Path.{_≡_, refl, sym, ap, _∙_}
+use mathlib.Core.Path.{_≡_, refl, sym, _∙_}
 use borrow.Author.Needs.{needs}
 use Rattle.kills.proofs.line_at.Statement.{statement}
 use Rattle.kills.proofs.line_at.Tie as tie

@@ -1,6 +1,6 @@
 use Rattle.kills.proofs.Steps.{named-none, named-first}
 use native.Mathlib.Omega.{arith}
-use mathlib.Core.Path.{_≡_, sym}
+use mathlib.Core.Path.{sym}
 use borrow.Author.Needs.{needs}
 use Rattle.kills.proofs.named.Statement.{statement}
 use Rattle.kills.proofs.named.Tie as tie

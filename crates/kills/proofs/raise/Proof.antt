@@ -1,4 +1,3 @@
-use mathlib.Core.Path.{_≡_, refl, sym, ap, _∙_}
 use borrow.Author.Needs.{needs}
 use Rattle.kills.proofs.raise.Statement.{statement}
 use Rattle.kills.proofs.raise.Tie as tie

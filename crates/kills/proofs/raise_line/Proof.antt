@@ -1,10 +1,10 @@
 use Rattle.kills.proofs.Steps.{raise-turn, raise-end}
 use Rattle.kills.specs.Lines.{raiseFrom}
-use lib.ListN.{length, drop, set, length-set}
+use lib.ListN.{drop, set}
 use native.Mathlib.Nat.{add-zero}
 use native.Mathlib.Omega.{arith}
-use Prim.Native.Nat.{ℕ, _+_, _*_, _-_, _≤_, _<_}
-use mathlib.Core.Path.{_≡_, refl, sym, ap, _∙_}
+use Prim.Native.Nat.{ℕ, _+_, _*_, _-_, _≤_}
+use mathlib.Core.Path.{_≡_, sym, ap, _∙_}
 use borrow.Author.Needs.{needs}
 use Rattle.kills.proofs.raise_line.Statement.{statement}
 use Rattle.kills.proofs.raise_line.Tie as tie

@@ -4,9 +4,9 @@ use Rattle.layout.specs.Rows.{membersAt}
 use Rattle.layout.specs.Fields.{u32At}
 use Rattle.replica.specs.Replica.{memberRows}
 use lib.Seq.{slice}
-use lib.ListN.{length, take, getD}
+use lib.ListN.{take}
 use native.Mathlib.Omega.{arith}
-use Prim.Native.Nat.{ℕ, _+_, _*_, _-_, _≤_, _<_, min}
+use Prim.Native.Nat.{ℕ, _+_, _*_, _-_, _≤_, min}
 use mathlib.Core.List.{map}
 use mathlib.Core.Path.{_≡_, refl, sym, ap, _∙_}
 use borrow.Author.Needs.{needs}

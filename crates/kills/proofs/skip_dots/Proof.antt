@@ -3,8 +3,8 @@ use Rattle.kills.specs.Lines.{reach}
 use Rattle.dots.specs.Dot.{dots}
 use Rattle.layout.specs.Clock.{dotsAt}
 use native.Mathlib.Omega.{arith}
-use Prim.Native.Nat.{ℕ, _+_, _*_, _-_, _≤_, _<_}
-use mathlib.Core.Path.{_≡_, refl, sym, ap, _∙_}
+use Prim.Native.Nat.{_+_, _*_, _-_, _≤_}
+use mathlib.Core.Path.{_≡_, _∙_}
 use borrow.Author.Needs.{needs}
 use Rattle.kills.proofs.skip_dots.Statement.{statement}
 use Rattle.kills.proofs.skip_dots.Tie as tie

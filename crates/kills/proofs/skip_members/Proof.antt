@@ -3,8 +3,8 @@ use Rattle.kills.specs.Lines.{reach}
 use Rattle.replica.specs.Replica.{memberRows}
 use Rattle.layout.specs.Rows.{membersAt}
 use native.Mathlib.Omega.{arith}
-use Prim.Native.Nat.{ℕ, _+_, _*_, _-_, _≤_, _<_}
-use mathlib.Core.Path.{_≡_, refl, sym, ap, _∙_}
+use Prim.Native.Nat.{_+_, _*_, _-_, _≤_}
+use mathlib.Core.Path.{_≡_, _∙_}
 use borrow.Author.Needs.{needs}
 use Rattle.kills.proofs.skip_members.Statement.{statement}
 use Rattle.kills.proofs.skip_members.Tie as tie

@@ -2,15 +2,13 @@ use Rattle.fields.proofs.Steps.{put-none, put-done}
 use Rattle.clocks.proofs.Steps.{mapped}
 use Rattle.dots.specs.Dot.{noDot}
 use lib.ListN.{getD}
-use Rattle.fields.proofs.Steps.{sets-past, store-step, store-end, head-step, length-encodeClock}
+use Rattle.fields.proofs.Steps.{store-step, store-end}
 use Rattle.layout.specs.Clock.{encodeDots}
-use Rattle.clocks.specs.VClock.{dotsOf}
-use lib.Seq.{sets, length-sets}
-use lib.ListN.{length, take, drop, length-map}
-use native.Mathlib.Nat.{sub-zero}
+use lib.Seq.{sets}
+use lib.ListN.{length, take, drop}
 use native.Mathlib.Omega.{arith}
-use Prim.Native.Nat.{ℕ, _+_, _*_, _-_, _≤_, _<_}
-use mathlib.Core.Path.{_≡_, refl, sym, ap, _∙_}
+use Prim.Native.Nat.{_+_, _*_, _-_, _≤_}
+use mathlib.Core.Path.{_≡_, refl, sym, _∙_}
 use borrow.Author.Needs.{needs}
 use Rattle.fields.proofs.clock.put_clock.Statement.{statement}
 use Rattle.fields.proofs.clock.put_clock.Tie as tie

@@ -1,7 +1,7 @@
 use Prim.Native.Nat.{_+_}
 use lib.ListN.{List·getD-eq-default}
 use native.Mathlib.Omega.{arith}
-use mathlib.Core.Path.{_≡_, sym}
+use mathlib.Core.Path.{sym}
 use borrow.Author.Needs.{needs}
 use Rattle.fields.proofs.number.byte_after.Statement.{statement}
 use Rattle.fields.proofs.number.byte_after.Tie as tie

@@ -1,6 +1,4 @@
 use Rattle.fields.proofs.Room.{u32-bytes}
-use Rattle.layout.specs.Fields.{u32At}
-use native.Mathlib.Omega.{arith}
 use borrow.Author.Needs.{needs}
 use Rattle.fields.proofs.number.load_edge.Statement.{statement}
 use Rattle.fields.proofs.number.load_edge.Tie as tie

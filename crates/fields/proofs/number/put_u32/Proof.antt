@@ -1,6 +1,6 @@
 use borrow.Author.Tests.{leb-true}
 use native.Mathlib.Nat.{add-zero}
-use mathlib.Core.Path.{_≡_, sym, _∙_}
+use mathlib.Core.Path.{sym, _∙_}
 use borrow.Author.Needs.{needs}
 use Rattle.fields.proofs.number.put_u32.Statement.{statement}
 use Rattle.fields.proofs.number.put_u32.Tie as tie

@@ -10,7 +10,7 @@ use Rattle.tables.specs.Stores.{sets-append}
 use borrow.Author.Tests.{leb-true}
 use native.Mathlib.Omega.{arith}
 use native.Mathlib.Nat.{add-zero}
-use mathlib.Core.Path.{_≡_, sym, _∙_}
+use mathlib.Core.Path.{sym, _∙_}
 use borrow.Author.Needs.{needs}
 use Rattle.fields.proofs.number.put_u64.Statement.{statement}
 use Rattle.fields.proofs.number.put_u64.Tie as tie

@@ -3,7 +3,7 @@ use lib.ListN.{length}
 use Rattle.fields.proofs.Room.{room-left}
 use borrow.Author.Tests.{lt-leb}
 use native.Mathlib.Omega.{arith}
-use mathlib.Core.Path.{_≡_, sym}
+use mathlib.Core.Path.{sym}
 use borrow.Author.Needs.{needs}
 use Rattle.fields.proofs.number.room.Statement.{statement}
 use Rattle.fields.proofs.number.room.Tie as tie

@@ -1,6 +1,4 @@
 use Rattle.fields.proofs.Room.{le32-bytes}
-use Rattle.layout.specs.Fields.{le32}
-use mathlib.Core.Path.{_≡_}
 use borrow.Author.Needs.{needs}
 use Rattle.fields.proofs.number.store_edge.Statement.{statement}
 use Rattle.fields.proofs.number.store_edge.Tie as tie

@@ -1,7 +1,5 @@
 use Rattle.fields.proofs.Room.{u16-bytes}
-use Rattle.layout.specs.Fields.{u16At}
 use native.Mathlib.Nat.{add-zero}
-use native.Mathlib.Omega.{arith}
 use borrow.Author.Needs.{needs}
 use Rattle.fields.proofs.number.u16_at.Statement.{statement}
 use Rattle.fields.proofs.number.u16_at.Tie as tie

@@ -4,7 +4,7 @@ use Rattle.layout.specs.Fields.{u64At}
 use borrow.Author.Tests.{leb-true}
 use native.Mathlib.Omega.{arith}
 use native.Mathlib.Nat.{add-zero}
-use mathlib.Core.Path.{_≡_, sym, _∙_}
+use mathlib.Core.Path.{sym, _∙_}
 use borrow.Author.Needs.{needs}
 use Rattle.fields.proofs.number.u64_at.Statement.{statement}
 use Rattle.fields.proofs.number.u64_at.Tie as tie
