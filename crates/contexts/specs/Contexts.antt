@@ -1,9 +1,7 @@
 -- What the calls on contexts answer: the first refusal that applies, by the order of document 01's table, and the value where none does.
 use Prim.Native.Nat.{ℕ, _+_}
 use mathlib.Core.Bool.{Bool, false, not, _&&_}
-use mathlib.Core.List.{List, [], _∷_}
-use lib.Dec.{eqb}
-use Rattle.tables.specs.Table.{pick}
+use mathlib.Core.List.{[], _∷_}
 use Rattle.tables.specs.Refusal.{Refusal, _if_, firstOf}
 use Rattle.dots.specs.declared.Dot.{Dot}
 use Rattle.dots.specs.Dot.{dot, noDot}

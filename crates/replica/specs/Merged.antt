@@ -56,8 +56,8 @@ module _ (A B M : Replica) (r : Merged A B M) where
     abbrev before : Bool
     before = killed A m a n || killed B m a n
 
-    abbrev now : Bool
-    now = killed M m a n || seen M a n
+    abbrev still : Bool
+    still = killed M m a n || seen M a n
 
     -- the merge's waiting removes are of one side
     fewer : T (killed M m a n) → T before
@@ -69,22 +69,22 @@ module _ (A B M : Replica) (r : Merged A B M) where
         (λ u. or-l (killed A m a n) (killed B m a n) (killed-to A m a n c u (k .2)))
         (λ u. or-r (killed A m a n) (killed B m a n) (killed-to B m a n c u (k .2)))
 
-    kept : (c : Clock) → T (named c) → T (leb n (count c a)) → T now
+    kept : (c : Clock) → T (named c) → T (leb n (count c a)) → T still
     unfolding seen
     kept c t s = go (covers (M .clock) c) refl
       where
-        go : (b : Bool) → covers (M .clock) c ≡ b → T now
+        go : (b : Bool) → covers (M .clock) c ≡ b → T still
         go true e = or-r (killed M m a n) (seen M a n) (le→leb n (count (M .clock) a) (le-trans (leb→le n (count c a) s) (covers-le (M .clock) c (rw e tt) a)))
         go false e = or-l (killed M m a n) (seen M a n) (killed-to M m a n c (rw (r .wait-is c, e, names-unite (waitAt A c) (waitAt B c) m) t) s)
 
     -- what a waiting remove of either covers, one still does, or V does
-    pub killed-kept : T before → T now
+    pub killed-kept : T before → T still
     killed-kept t = or-e (killed A m a n) (killed B m a n) t
         (λ u. let k = killed-from A m a n (h .waiting-ok) u in kept (k .0) (or-l (names (waitAt A (k .0)) m) (names (waitAt B (k .0)) m) (k .1)) (k .2))
         (λ u. let k = killed-from B m a n (g .waiting-ok) u in kept (k .0) (or-r (names (waitAt A (k .0)) m) (names (waitAt B (k .0)) m) (k .1)) (k .2))
 
     pub rest-law : T (rest (killed M m a n) (killed A m a n) (killed B m a n) (seen A a n || seen B a n))
-    rest-law = rw (seen-is a n) at (and-i (imp (killed M m a n) before) (imp before now) (pm (killed M m a n) before fewer) (pm before now killed-kept))
+    rest-law = rw (seen-is a n) at (and-i (imp (killed M m a n) before) (imp before still) (pm (killed M m a n) before fewer) (pm before still killed-kept))
 
 -- ---- there is only one
 
