@@ -6,3 +6,5 @@ pub mod OrderSteps
 pub mod NameSteps
 pub mod WaitSteps
 pub mod WaitLoop
+pub mod DraftSteps
+pub mod Link

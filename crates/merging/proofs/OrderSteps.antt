@@ -60,7 +60,7 @@ dots-then s p t q r r′ e h f = late (compare (u32At s p) (u32At t q)) (compare
 abbrev pub dotsPast : List ℕ → ℕ → ℕ → ℕ → Clock
 dotsPast s p n i = dotsAt s (p + 12 * i) (n - i)
 
-dots-step : (s : List ℕ) (p n i : ℕ) → i < n → dotsPast s p n i ≡ dotAt s (p + 12 * i) ∷ dotsPast s p n (i + 1)
+pub dots-step : (s : List ℕ) (p n i : ℕ) → i < n → dotsPast s p n i ≡ dotAt s (p + 12 * i) ∷ dotsPast s p n (i + 1)
 unfolding listAt
 dots-step s p n i h =
     let e : n - i ≡ suc (n - (i + 1)) = omega arith in

@@ -214,9 +214,12 @@ module _ (A B : Replica) (s : List ℕ) (p m : ℕ) (t : List ℕ) (q k : ℕ) (
     rows-end e =
         let em : w .m ≡ 0 = omega arith in
         let ek : w .k ≡ 0 = omega arith in
+        let fw = z .few in let ro = z .room in let ls = z .left-step in let rs = z .right-step in let fa = R .ours .few in let fb = R .theirs .few in
         let nil : rowsLeft A B s t w ≡ [] = rw (em, ek) (zip-nil entries (keptClock (merged (A .clock) (B .clock)) A B)) in
         record {
           count = rw (nil, add-zero) at (z .count);
           ends = rw (nil, add-zero) at (z .ends);
+          few = omega arith;
+          room = omega arith;
           bytes = rw nil at (z .store);
         }

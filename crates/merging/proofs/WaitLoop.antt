@@ -20,6 +20,7 @@ use Rattle.layout.specs.Rows.{waitsAt, waitsEnd, waitEnd, waitAtPlace, encodeWa
 use Rattle.merging.specs.declared.waits.Waits.{Waits}
 use Rattle.merging.specs.Ahead.{wrote, length-cons, bytes-cons}
 use Rattle.merging.specs.Waits.{keptWaits, nextClock, nextWait, first, waits-turn, waits-end}
+use Rattle.merging.proofs.WaitSteps.{end-ge}
 use Rattle.merging.specs.Waiting.{dotsFrom, mostNamed, Sound, WaitsAhead, turnWait, MergedWait, WaitsReady, WroteWaits}
 
 -- ---- what the turns keep
@@ -154,10 +155,14 @@ module _ (A B : Replica) (s : List ℕ) (p m : ℕ) (t : List ℕ) (q k : ℕ) (
     waits-done e =
         let em : w .m ≡ 0 = omega arith in
         let ek : w .k ≡ 0 = omega arith in
+        let fw = z .few in let ro = z .room in let fa = R .left-few in let fb = R .right-few in let ea = R .left-edge in let eb = R .right-edge in let za = z .left-edge in let zb = z .right-edge in
+        let ga = end-ge s (w .p) (w .m) in let gb = end-ge t (w .q) (w .k) in
         let nil : waitsLeft both s t w ≡ [] = rw (em, ek) (waits-end both) in
         record {
           count = rw (nil, add-zero) at (z .count);
           ends = rw (nil, add-zero) at (z .ends);
           most = let mo = rw nil at (z .most) in omega arith;
+          few = omega arith;
+          room = omega arith;
           bytes = rw nil at (z .store);
         }

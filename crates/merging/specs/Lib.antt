@@ -4,4 +4,6 @@ pub mod Keeping
 pub mod Rowing
 pub mod Waits
 pub mod Waiting
+pub mod Draft
 pub mod Merge
+pub mod Laws

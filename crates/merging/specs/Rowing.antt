@@ -55,4 +55,6 @@ pub record MergedRow (s t vs : List ℕ) (n : ℕ) (va ka vb kb : List ℕ) (low
 pub record WroteRows (out : List ℕ) (at : ℕ) (es : List Entry) (out′ : List ℕ) (n end : ℕ) : Type 0 where
   pub count : n ≡ length es
   pub ends : end ≡ at + length (encodeRows es)
+  pub few : n ≤ 128
+  pub room : end ≤ at + 25600
   pub bytes : out′ ≡ sets out at (encodeRows es)

@@ -128,8 +128,8 @@ pub record WaitsReady (A B : Replica) (s : List ℕ) (p m : ℕ) (t : List ℕ) 
   pub right-rise : Ascend waits (waitsAt t q k)
   pub left-sound : All Sound (waitsAt s p m)
   pub right-sound : All Sound (waitsAt t q k)
-  pub left-edge : waitsEnd s p m < 4294967296
-  pub right-edge : waitsEnd t q k < 4294967296
+  pub left-edge : waitsEnd s p m < 65536
+  pub right-edge : waitsEnd t q k < 65536
   pub few : n ≤ 16
   pub clock : dotsFrom vs va vb 0 n ≡ merged (A .clock) (B .clock)
   pub clock-ok : Normal clocks (merged (A .clock) (B .clock))
@@ -139,4 +139,6 @@ pub record WroteWaits (out : List ℕ) (at : ℕ) (ws : List Wait) (out′ : Lis
   pub count : r .n ≡ length ws
   pub ends : r .at ≡ at + length (encodeWaits ws)
   pub most : r .most ≡ mostNamed ws
+  pub few : r .n ≤ 32
+  pub room : r .at ≤ at + 131072
   pub bytes : out′ ≡ sets out at (encodeWaits ws)

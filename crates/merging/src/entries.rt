@@ -138,14 +138,14 @@ fn kept(
 // Where the walk along the entries of two images stands: the next row of each, how many are left, how many went before; the place in the output,
 // and how many rows were kept.
 pub(crate) struct Rows {
-    p: usize,
-    m: usize,
-    i: usize,
-    q: usize,
-    k: usize,
-    j: usize,
-    at: usize,
-    n: usize,
+    pub(crate) p: usize,
+    pub(crate) m: usize,
+    pub(crate) i: usize,
+    pub(crate) q: usize,
+    pub(crate) k: usize,
+    pub(crate) j: usize,
+    pub(crate) at: usize,
+    pub(crate) n: usize,
 }
 
 // How many dots the row at a place has, where it is met; 0 where not.

@@ -240,13 +240,13 @@ fn put_wait(
 // Where the walk along the waiting removes of two images stands: the next of each, how many are left; the place in the output, how many were kept,
 // and the most members that one names.
 pub(crate) struct Waits {
-    p: usize,
-    m: usize,
-    q: usize,
-    k: usize,
-    at: usize,
-    n: usize,
-    most: usize,
+    pub(crate) p: usize,
+    pub(crate) m: usize,
+    pub(crate) q: usize,
+    pub(crate) k: usize,
+    pub(crate) at: usize,
+    pub(crate) n: usize,
+    pub(crate) most: usize,
 }
 
 // 1 unless the number is the one given.

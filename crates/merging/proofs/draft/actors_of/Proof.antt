@@ -1,0 +1,39 @@
+use mathlib.Core.Path.{_≡_, refl}
+use mathlib.Core.List.{map}
+use Prim.Native.Nat.{_-_, _≤_}
+use native.Mathlib.Omega.{arith}
+use lib.ListN.{length, take, getD, length-set}
+use Rattle.dots.specs.Dot.{actorOf, noDot}
+use Rattle.clocks.specs.VClock.{dotsOf}
+use Rattle.clocks.proofs.Steps.{mapped}
+use Rattle.merging.proofs.DraftSteps.{actors-on}
+use borrow.Author.Needs.{needs}
+use Rattle.merging.proofs.draft.actors_of.Statement.{statement}
+use Rattle.merging.proofs.draft.actors_of.Tie as tie
+
+abbrev Inv-loop : tie.InvT-loop
+Inv-loop v n actors₀ i₀ actors i = (i ≤ n) × (length actors ≡ 16) × (take i actors ≡ map (λ d. actorOf d) (take i (v .dots)))
+
+abbrev μ-loop : tie.MeasureT-loop
+μ-loop v n actors₀ i₀ actors i = n - i
+
+loop-holds : tie.Need-loop-holds Inv-loop μ-loop
+loop-holds c = (omega arith, refl, refl)
+
+loop-less : tie.Need-loop-less Inv-loop μ-loop
+loop-less c = let t = c .before .loop-test .taken in omega arith
+
+loop-again : tie.Need-loop-again Inv-loop μ-loop
+loop-again c =
+    let t = c .before .loop-test .taken in let z = c .before .before .loop .inv in let pre = c .before .before .before .pre in let a = c .before .before .before .args in
+    let long : length (a .t1 .dots) ≡ 16 = search mapped in
+    (omega arith, simp length-set (z .1), actors-on (a .t1 .dots) (c .before .before .loop .actors) (c .before .before .loop .i) (getD (a .t1 .dots) (c .before .before .loop .i) noDot) (z .2) (omega arith) (omega arith) refl)
+
+returns : tie.Need-returns Inv-loop μ-loop
+returns c = let t = c .loop-test .left in let z = c .before .loop .inv in let e : c .before .loop .i ≡ c .before .before .args .t1 .len = omega arith in rw (← e) (z .2)
+
+pub actors-of-spec : {M : Type 1} → statement M
+actors-of-spec =
+    tie.close
+    (tie.spec Inv-loop μ-loop loop-holds (λ c. search needs) (λ c. search needs) (λ c. search needs)
+    (λ c. search needs) (λ c. search needs) loop-less loop-again returns)
