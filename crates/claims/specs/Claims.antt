@@ -5,9 +5,10 @@
 -- promise of a merge. So a call that refuses everything, writes a constant, copies a side, or answers 0 and writes nothing, falls to these theorems.
 use Prim.Native.Nat.{ℕ, _≤_, _<_}
 use mathlib.Core.Path.{_≡_, sym, ap, _∙_}
-use mathlib.Core.Logic.{_↔_}
+use mathlib.Core.Logic.{_↔_, _⊎_, inl, inr, ⊎-elim}
 use mathlib.Core.Bool.{true, false}
 use mathlib.Core.List.{List, [], _∷_}
+use native.Mathlib.Omega.{arith}
 use lib.Dec.{T}
 use lib.ListN.{length, drop}
 use Rattle.tables.specs.Table.{All}
@@ -19,9 +20,10 @@ use Rattle.clocks.specs.VClock.{dotsOf}
 use Rattle.replica.specs.Replica.{Replica, isIn, holds}
 use Rattle.replica.specs.Rules.{merge, settled}
 use Rattle.replica.specs.Listed.{listed}
-use Rattle.replica.specs.Limits.{full, limitsOf, broken, Within, wellFormed}
+use Rattle.replica.specs.Limits.{full, limitsOf, broken, broken-right, Within, wellFormed, well-formed-from}
 use Rattle.replica.specs.History.{apply, step}
 use Rattle.replica.specs.HistoryLaws.{fair}
+use Rattle.replica.specs.LimitLaws.{reset-number, remove-number, add-number}
 use Rattle.replica.specs.Membership.{Kept}
 use Rattle.replica.specs.Merged.{Merged}
 use Rattle.replica.specs.MergeLaws.{merge-says, merge-members, merge-commutes, merge-associates, merge-itself}
@@ -31,7 +33,7 @@ use Rattle.replica.specs.ResetLaws.{WasReset, was-reset}
 use Rattle.layout.specs.Fields.{Bytes}
 use Rattle.layout.specs.Fits.{Fits}
 use Rattle.layout.specs.Image.{encode, imageOf, goodImage}
-use Rattle.layout.specs.Main.{accepted, encode-good, good-length}
+use Rattle.layout.specs.Main.{accepted, encode-good, good-formed, good-length}
 use Rattle.results.specs.declared.Written.{Written}
 use Rattle.results.specs.Call.{tableOf, answered, meets-once}
 use Rattle.results.specs.Laws.{number-right, number-lowest, limit-exactly, done-exactly, refused-keeps, granted-writes}
@@ -121,6 +123,42 @@ module _ (a : List ℕ) {before after : List ℕ} {r : Written} (bytes : Bytes a
   pub resets : (c : VClock) → Lent (reset-by c) → Answers (reset-by c) a before r after → WasReset (dotsOf c) (imageOf a) (imageOf (image r after))
   unfolding step
   resets c l m = rw (by-rule (reset-by c) a m bytes l done) (was-reset (dotsOf c) (imageOf a) (well-formed-sound (was-well-formed (reset-by c) a m bytes l done)))
+
+-- ---- which limits a call can break
+
+-- the number of a refusal by a limit is the one that the rule's result breaks, and the image was within them
+module _ (q : Request) (a : List ℕ) {before after : List ℕ} {r : Written} (lent : Lent q) (kept : Answers q a before r after) (k : ℕ) (above : 5 < k) (below : k < 10) (number : r .no ≡ k) where
+  by-limit : (broken full (imageOf a) ≡ 0) × (broken full (step (eventOf q) (imageOf a)) ≡ k)
+  by-limit =
+      let f = (refused-by-limit q a kept k above below) .0 number in
+      let p = (does q a lent) .passes (f .0) in (
+        (well-formed-from full (imageOf a) (good-formed a (p .image-good))) .1,
+        ap (broken full) (sym ((does q a lent) .result-is)) ∙ (broken-right full (finished q a) k (omega arith)) .1 (f .1),
+      )
+
+module _ (a : List ℕ) {before after : List ℕ} {r : Written} (k : ℕ) (above : 5 < k) (below : k < 10) (number : r .no ≡ k) where
+  -- an add only 6 and 7
+  pub add-limits : (d : Dot) (c : VClock) (ms : List ℕ) → Lent (apply-op (Add d) c ms) → Answers (apply-op (Add d) c ms) a before r after → (k ≡ 6) ⊎ (k ≡ 7)
+  unfolding step apply
+  add-limits d c ms l m =
+      let b = by-limit (apply-op (Add d) c ms) a l m k above below number in
+      ⊎-elim (λ z. absurd (omega arith)) (⊎-elim (λ z. inl (omega arith)) (λ z. inr (omega arith))) (add-number full (imageOf a) (b .0) d ms)
+
+  -- a remove only 8 and 9
+  pub remove-limits : (c : VClock) (ms : List ℕ) → Lent (apply-op Remove c ms) → Answers (apply-op Remove c ms) a before r after → (k ≡ 8) ⊎ (k ≡ 9)
+  unfolding step apply
+  remove-limits c ms l m =
+      let b = by-limit (apply-op Remove c ms) a l m k above below number in
+      ⊎-elim (λ z. absurd (omega arith)) (⊎-elim (λ z. inl (omega arith)) (λ z. inr (omega arith))) (remove-number full (imageOf a) (b .0) (dotsOf c) ms)
+
+  -- a reset only 9
+  pub reset-limits : (c : VClock) → Lent (reset-by c) → Answers (reset-by c) a before r after → k ≡ 9
+  unfolding step
+  reset-limits c l m =
+      let b = by-limit (reset-by c) a l m k above below number in
+      ⊎-elim (λ z. absurd (omega arith)) (λ z. omega arith) (reset-number full (imageOf a) (b .0) (dotsOf c))
+
+-- ---- images
 
 -- exactly the images of well-formed replicas are taken for such, and none is longer than 18,268 bytes
 pub well-formed-images : (a : List ℕ) → (Bytes a × T (goodImage a)) ↔ ((A : Replica) × T (wellFormed full A) × Fits A × (a ≡ encode A))
