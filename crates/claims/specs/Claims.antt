@@ -40,7 +40,7 @@ use Rattle.results.specs.Laws.{number-right, number-lowest, limit-exactly, done
 use Rattle.operations.specs.declared.Op.the-variants.{Add, Remove}
 use Rattle.claims.specs.Granted.{WellFormed, Granted, Roomy, image, granted-fit, granted-well-formed, granted-says}
 use Rattle.claims.specs.Requests.{Request, apply-op, merge-with, reset-by, callOn, eventOf, Lent, in-order, does}
-use Rattle.claims.specs.Merges.{Merges, Same, well-formed-sound, within-limits, outcome, same, merged-formed, merged-says}
+use Rattle.claims.specs.Merges.{Merges, Same, well-formed-sound, within-limits, outcome, same, merged-formed, merged-says, first-side, second-side}
 use Rattle.claims.specs.Histories.{Answers, History, Unforgotten, stays-down, comes-back-new}
 
 -- ---- 1. Any bytes are taken, and the work is done or the lowest number that applies is returned
@@ -55,6 +55,13 @@ arguments q a = (callOn q a) .refusals
 
 abbrev finished : Request → List ℕ → Replica
 finished q a = (callOn q a) .result
+
+-- "1 / 2: the first / second replica isn't a well-formed image"
+pub first-refused : (a b : List ℕ) {before after : List ℕ} {r : Written} → Merges a b before r after → (r .no ≡ 1) ↔ (goodImage a ≡ false)
+first-refused = first-side
+
+pub second-refused : (a b : List ℕ) {before after : List ℕ} {r : Written} → Merges a b before r after → (r .no ≡ 2) ↔ ((goodImage a ≡ true) × (goodImage b ≡ false))
+second-refused = second-side
 
 module _ (q : Request) (a : List ℕ) {before after : List ℕ} {r : Written} (kept : Answers q a before r after) where
   -- "The lowest number that applies is given."

@@ -1,12 +1,14 @@
 -- Merges of images: where both are well-formed and the output has room for any image, the merge of the two replicas decides.
-use Prim.Native.Nat.{ℕ}
-use mathlib.Core.Path.{_≡_, sym, ap, _∙_}
-use mathlib.Core.Bool.{not}
+use Prim.Native.Nat.{ℕ, _<_}
+use mathlib.Core.Path.{_≡_, refl, sym, ap, _∙_}
+use mathlib.Core.Logic.{_↔_}
+use mathlib.Core.Bool.{Bool, true, false, not, false≢true}
 use mathlib.Core.List.{List, []}
+use native.Mathlib.Omega.{arith}
 use lib.Dec.{T, eqb}
 use lib.ListN.{length}
 use Rattle.tables.specs.Table.{pick}
-use Rattle.tables.specs.Refusal.{NoneApplies}
+use Rattle.tables.specs.Refusal.{NoneApplies, firstOf, first-right}
 use Rattle.dots.specs.Rising.{true-from}
 use Rattle.replica.specs.Replica.{Replica}
 use Rattle.replica.specs.Rules.{merge}
@@ -17,9 +19,10 @@ use Rattle.layout.specs.Image.{encode, imageOf, goodImage}
 use Rattle.layout.specs.Main.{good-formed}
 use Rattle.results.specs.declared.Written.{Written}
 use Rattle.results.specs.Call.{answered, Meets}
+use Rattle.results.specs.Laws.{argument-exactly}
 use Rattle.merging.specs.Merge.{mergeCall}
 use Rattle.claims.specs.Granted.{WellFormed, Granted, Roomy, image, granted-well-formed, granted-says, in-hand}
-use Rattle.claims.specs.Requests.{merge-with, does}
+use Rattle.claims.specs.Requests.{merge-with, in-order, does}
 
 -- the promise of merge(a, b, out): r is its answer, and `after` are the output's bytes where `before` was lent
 abbrev pub Merges : List ℕ → List ℕ → List ℕ → Written → List ℕ → Type 0
@@ -68,3 +71,32 @@ module _ (a b : List ℕ) {before after : List ℕ} {r : Written} (v : WellForme
   pub merged-says : imageOf (image r after) ≡ merge (imageOf a) (imageOf b)
   unfolding step
   merged-says = granted-says (does (merge-with b) a (w .bytes)) (v .bytes) kept done
+
+-- ---- which side is refused
+
+abbrev side : Bool → Bool → ℕ
+side x y = pick (not x) 1 (pick (not y) 2 0)
+
+side-one : (x y : Bool) → (side x y ≡ 1) ↔ (x ≡ false)
+side-one false y = (λ z. refl, λ z. refl)
+side-one true false = (λ z. absurd (omega arith), λ z. absurd (false≢true (sym z)))
+side-one true true = (λ z. absurd (omega arith), λ z. absurd (false≢true (sym z)))
+
+side-two : (x y : Bool) → (side x y ≡ 2) ↔ ((x ≡ true) × (y ≡ false))
+side-two false y = (λ z. absurd (omega arith), λ z. absurd (false≢true (z .0)))
+side-two true false = (λ z. (refl, refl), λ z. refl)
+side-two true true = (λ z. absurd (omega arith), λ z. absurd (false≢true (sym (z .1))))
+
+module _ (a b : List ℕ) {before after : List ℕ} {r : Written} (kept : Merges a b before r after) where
+  by-side : (k : ℕ) → 0 < k → k < 6 → (r .no ≡ k) ↔ (side (goodImage a) (goodImage b) ≡ k)
+  unfolding mergeCall firstOf
+  by-side k p q =
+      let e = argument-exactly full (mergeCall a b) before r after kept (in-order (merge-with b) a) k p q in
+      let f = first-right ((mergeCall a b) .refusals) k p in
+      (λ z. f .1 (e .0 z), λ z. e .1 (f .0 z))
+
+  pub first-side : (r .no ≡ 1) ↔ (goodImage a ≡ false)
+  first-side = let e = by-side 1 (omega arith) (omega arith) in let f = side-one (goodImage a) (goodImage b) in (λ z. f .0 (e .0 z), λ z. e .1 (f .1 z))
+
+  pub second-side : (r .no ≡ 2) ↔ ((goodImage a ≡ true) × (goodImage b ≡ false))
+  second-side = let e = by-side 2 (omega arith) (omega arith) in let f = side-two (goodImage a) (goodImage b) in (λ z. f .0 (e .0 z), λ z. e .1 (f .1 z))
