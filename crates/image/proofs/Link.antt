@@ -31,7 +31,7 @@ use Rattle.replica.specs.Limits.{full}
 use Rattle.layout.specs.Good.{goodClock, goodMembers, goodRows, goodWaits, goodEntry, goodContents, goodParts, goodPartsIn, partsTests, checksIn}
 use Rattle.layout.specs.Kit.{Stands, stands, Named, named, clock-normal, place-row, place-good, first-wait, length-startsAt, length-clockAt, each-from}
 use Rattle.layout.specs.Form.{length-listAt}
-use Rattle.layout.specs.Checks.{rows-rise, members-rise}
+use Rattle.layout.specs.Checks.{rows-rise, members-rise, passed}
 use Rattle.fields.specs.Read.{clockRead}
 use Rattle.kills.specs.Lines.{killLines, membersOf, waitRead, waitsOf}
 use Rattle.kills.specs.Laws.{Ordered, kill-numbers}
@@ -130,7 +130,7 @@ wait-is : (s : List ℕ) (p : ℕ) → goodClock s p ≡ true → goodMembers s 
 unfolding waitRead waitIn
 wait-is s p g m =
     let w = named s (clockEnd s p) m in
-    let e : min (u32At s (clockEnd s p)) 32 ≡ u32At s (clockEnd s p) = omega (arith, w .few) in
+    let e : min (u32At s (clockEnd s p)) 64 ≡ u32At s (clockEnd s p) = omega (arith, w .few) in
     rw (read-good s p g, e)
 
 waits-are : (s : List ℕ) (p : ℕ) (last : Clock) (n : ℕ) → goodWaits s p last n ≡ true → map (λ q. waitRead s q) (waitPlacesAt s p n) ≡ waitsAt s p n
@@ -142,7 +142,7 @@ map-self : (ms : List ℕ) → map (λ m. m) ms ≡ ms
 map-self [] = refl
 map-self (m ∷ ms) = ap (λ (l : List ℕ). m ∷ l) (map-self ms)
 
-waits-ordered : (s : List ℕ) (p : ℕ) (last : Clock) (n : ℕ) → goodWaits s p last n ≡ true → All Ordered (waitsAt s p n)
+pub waits-ordered : (s : List ℕ) (p : ℕ) (last : Clock) (n : ℕ) → goodWaits s p last n ≡ true → All Ordered (waitsAt s p n)
 unfolding listAt waitIn
 waits-ordered s p last zero g = tt
 waits-ordered s p last (suc n) g =
@@ -157,10 +157,10 @@ module _ (s : List ℕ) (start n wstart k : ℕ) (few : n ≤ 64) (waits-few : k
   abbrev R : Replica
   R = record { clock = clockAt s 24; entries = rowsAt s start n; waiting = waitsAt s wstart k }
 
-  abbrev places : List ℕ
+  abbrev pub places : List ℕ
   places = sets (replicate 64 0) 0 (placesAt s start n)
 
-  abbrev starts : List ℕ
+  abbrev pub starts : List ℕ
   starts = sets (replicate 16 0) 0 (waitPlacesAt s wstart k)
 
   taken-places : take n places ≡ placesAt s start n
@@ -172,11 +172,11 @@ module _ (s : List ℕ) (start n wstart k : ℕ) (few : n ≤ 64) (waits-few : k
   clock-is : dotsOf (vclock (clockAt s 24)) ≡ clockAt s 24
   clock-is = dots-vclock (clockAt s 24) (let w = stands s 24 cg in let e = length-clockAt s 24 in omega (arith, w .count))
 
-  ms-are : membersOf s places n ≡ map (λ e. e .member) (rowsAt s start n)
+  pub ms-are : membersOf s places n ≡ map (λ e. e .member) (rowsAt s start n)
   unfolding membersOf
   ms-are = rw taken-places (members-are s start n)
 
-  ws-are : waitsOf s starts k ≡ waitsAt s wstart k
+  pub ws-are : waitsOf s starts k ≡ waitsAt s wstart k
   unfolding waitsOf
   ws-are = rw taken-starts (waits-are s wstart [] k wg)
 
@@ -299,3 +299,21 @@ image-good s x e b g = go (goodImage s) refl e
     go : (c : Bool) → goodImage s ≡ c → x ≡ pick c (imageOfBytes s) noImage → (goodImage s ≡ b) × (x ≡ pick b (imageOfBytes s) noImage)
     go true f u = let h : true ≡ b = sym (ap (λ (y : Image). y .good) u) ∙ g in (f ∙ h, rw (← h) u)
     go false f u = let h : false ≡ b = sym (ap (λ (y : Image). y .good) u) ∙ g in (f ∙ h, rw (← h) u)
+
+-- what a caller may go by: the members at the places are the entries', and the waiting removes at the starts are the image's, each in order
+pub record Stood (s : List ℕ) (x : Image) : Type 0 where
+  pub members-stood : membersOf s (x .places) (x .entries) ≡ map (λ e. e .member) (imageOf s .entries)
+  pub waits-stood : waitsOf s (x .starts) (x .waits) ≡ imageOf s .waiting
+  pub waits-in-order : All Ordered (imageOf s .waiting)
+
+pub stood : (s : List ℕ) (x : Image) → x ≡ checkImage s → x .good ≡ true → Stood s x
+unfolding imageOfBytes imageIn
+stood s x e g =
+    let t = image-good s x e true g in
+    let h = passed s (t .0) in
+    let y : x ≡ imageOfBytes s = t .1 in
+    record {
+      members-stood = ap (λ (z : Image). membersOf s (z .places) (z .entries)) y ∙ ms-are s (u32At s 8) (u32At s 12) (u32At s 16) (u32At s 20) (h .few-members) (h .few-waiting) (h .clock-good) (h .rows-good) (h .waits-good);
+      waits-stood = ap (λ (z : Image). waitsOf s (z .starts) (z .waits)) y ∙ ws-are s (u32At s 8) (u32At s 12) (u32At s 16) (u32At s 20) (h .few-members) (h .few-waiting) (h .clock-good) (h .rows-good) (h .waits-good);
+      waits-in-order = waits-ordered s (u32At s 16) [] (u32At s 20) (h .waits-good);
+    }

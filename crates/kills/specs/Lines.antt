@@ -45,13 +45,13 @@ unfoldable pub killLines : Clock → List ℕ → List Wait → List ℕ → Lis
 killLines v ms [] t = t
 killLines v ms (w ∷ ws) t = killLines v ms ws (raised t 0 (along memberRows ms (w .members)) (lineOf v (w .clock)))
 
--- ---- read from bytes at given places: at most 16 dots and 32 members of a waiting remove
+-- ---- read from bytes at given places: at most 16 dots and 64 members of a waiting remove (an argument list is handed over as one)
 
 unfoldable pub membersOf : List ℕ → List ℕ → ℕ → List ℕ
 membersOf s places n = map (λ p. u32At s p) (take n places)
 
 unfoldable pub waitRead : List ℕ → ℕ → Wait
-waitRead t p = record { clock = clockRead t p; members = membersAt t (clockEnd t p + 4) (min (u32At t (clockEnd t p)) 32) }
+waitRead t p = record { clock = clockRead t p; members = membersAt t (clockEnd t p + 4) (min (u32At t (clockEnd t p)) 64) }
 
 unfoldable pub waitsOf : List ℕ → List ℕ → ℕ → List Wait
 waitsOf t places k = map (λ p. waitRead t p) (take k places)

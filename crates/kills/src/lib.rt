@@ -150,10 +150,10 @@ fn raise_named(
     out: &mut [u64; 1024],
 )
     requires { ⌜ (n ≤ 64) × (at < 70368744177664) ⌝ }
-    ensures { λ _. ⌜ now (out .exit) ≡ raised (now (out .entry)) 0 (along memberRows (membersOf (now (s .entry)) places n) (membersAt (now (t .entry)) (at + 4) (min (u32At (now (t .entry)) at) 32))) line ⌝ }
+    ensures { λ _. ⌜ now (out .exit) ≡ raised (now (out .entry)) 0 (along memberRows (membersOf (now (s .entry)) places n) (membersAt (now (t .entry)) (at + 4) (min (u32At (now (t .entry)) at) 64))) line ⌝ }
 {
     let mut p = at + 4;
-    let mut left = at_most(wide(u32_at(t, at)), 32);
+    let mut left = at_most(wide(u32_at(t, at)), 64);
     let mut i: usize = 0;
     while i < n {
         let m = u32_at(s, wide(places[i]));

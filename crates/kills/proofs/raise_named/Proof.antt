@@ -15,7 +15,7 @@ use Rattle.kills.proofs.raise_named.Tie as tie
 
 abbrev Inv-loop : tie.InvT-loop
 Inv-loop s n t at line out₀ places p₀ left₀ i₀ out p left i =
-    (i ≤ n) × (p + 4 * left ≤ at + 132)
+    (i ≤ n) × (p + 4 * left ≤ at + 260)
     × (raised out i (along memberRows (map (λ q. u32At s q) (slice i n places)) (membersAt t p left)) line ≡ raised out₀ 0 (along memberRows (map (λ q. u32At s q) (take n places)) (membersAt t p₀ left₀)) line)
 
 abbrev μ-loop : tie.MeasureT-loop
@@ -36,7 +36,7 @@ unfolding membersOf
 returns c =
     let a = c .before .before .before .before .before .before .before .args in
     let l = c .before .loop in
-    let e2 : c .before .before .at-most .result ≡ min (u32At (a .t .now) (a .at)) 32 = omega (arith, c .before .before .at-most .ensures .0, c .before .before .before .wide .ensures .0, c .before .before .before .before .u32-at .ensures) in
+    let e2 : c .before .before .at-most .result ≡ min (u32At (a .t .now) (a .at)) 64 = omega (arith, c .before .before .at-most .ensures .0, c .before .before .before .wide .ensures .0, c .before .before .before .before .u32-at .ensures) in
     sym (named-end (a .s .now) (a .t2) (l .out) (a .line) (membersAt (a .t .now) (l .p) (l .left)) (a .n) (l .i) (omega arith)) ∙ l .inv .2
     ∙ ap (λ (k : ℕ). raised (a .out .now) 0 (along memberRows (map (λ q. u32At (a .s .now) q) (take (a .n) (a .t2))) (membersAt (a .t .now) (a .at + 4) k)) (a .line)) e2
 
