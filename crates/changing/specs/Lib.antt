@@ -1,2 +1,4 @@
+pub mod Kept
+pub mod KeptWaits
 pub mod Entries
 pub mod Waits

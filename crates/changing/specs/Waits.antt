@@ -19,7 +19,7 @@ use Rattle.replica.specs.WellFormed.{Fine, sound-fine, fine-sound}
 use Rattle.replica.specs.Waits.{GoodWait, Each, unite-none, unite-good, joined-get, joined-normal}
 use Rattle.replica.specs.Settle.{late-normal, late-get}
 use Rattle.replica.specs.ResetLaws.{was-reset}
-use Rattle.merging.specs.Waits.{keptWaits}
+use Rattle.changing.specs.KeptWaits.{keptWaits}
 
 none-normal : Normal waits []
 none-normal = record { asc = tt; proper = tt }

@@ -8,19 +8,18 @@ use native.Mathlib.Nat.{add-zero, zero-add, mul-zero}
 use lib.Dec.{eqb}
 use lib.ListN.{length, getD, length-append}
 use lib.Seq.{sets, length-sets}
-use borrow.Author.Tests.{eqb-true, eqb-false}
 use Rattle.tables.specs.Table.{pick, cons?}
 use Rattle.tables.specs.Zip.{said, past}
 use Rattle.dots.specs.declared.Dot.{Dot}
 use Rattle.dots.specs.Dot.{dots, dot?, dot}
 use Rattle.dots.specs.Clock.{Clock}
 use Rattle.layout.specs.Fields.{u32At, u64At, le32, le64, length-le32, length-le64}
-use Rattle.layout.specs.Lists.{listAt, bytesOf}
+use Rattle.layout.specs.Lists.{bytesOf}
 use Rattle.layout.specs.Clock.{narrow, dotIn, dotEndIn, dotAt, dotsAt, encodeDot, encodeDots, encodeDotIn}
 use Rattle.merging.specs.declared.entries.Places.{Places}
-use Rattle.merging.specs.Ahead.{keyAhead, hits, Met, said-ahead, past-ahead, wrote, length-cons}
-use Rattle.merging.specs.Entries.{keepOf}
-use Rattle.merging.specs.Keeping.{dotList, KeptDot, KeptDots, Line, linesFrom, keptAlong}
+use Rattle.merging.specs.Ahead.{keyAhead, Met, said-ahead, past-ahead, wrote, length-cons}
+use Rattle.changing.specs.Kept.{keepOf}
+use Rattle.merging.specs.Keeping.{dotList, KeptDot, KeptDots, linesFrom, keptAlong}
 
 -- ---- bytes of dots
 

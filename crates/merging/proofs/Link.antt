@@ -1,27 +1,21 @@
 -- What the loops start from, of two images that passed the check.
-use Prim.Native.Nat.{ℕ, zero, suc, _+_, _*_, _-_, _≤_, _<_, max, compare}
-use mathlib.Core.Path.{_≡_, refl, sym, ap, ap₂, _∙_, subst}
-use mathlib.Core.Bool.{Bool, true, false}
+use Prim.Native.Nat.{ℕ, _+_, _*_, _≤_, _<_}
+use mathlib.Core.Path.{_≡_, refl, ap}
+use mathlib.Core.Bool.{true}
 use mathlib.Core.Option.{some}
 use mathlib.Core.List.{List, [], _∷_, map}
 use native.Mathlib.Omega.{arith}
-use native.Mathlib.Numerals.{add-one}
-use lib.ListN.{length, getD, take, drop}
-use lib.Seq.{drop-cons}
-use lib.Dec.{T}
-use Rattle.tables.specs.Ascending.{ascending}
-use Rattle.tables.specs.Table.{Normal, All, all-map, Asc}
-use Rattle.tables.specs.Zip.{Rise, Ascend}
+use lib.ListN.{length, getD, drop}
+use Rattle.tables.specs.Table.{All, all-map}
+use Rattle.tables.specs.Zip.{Ascend}
 use Rattle.dots.specs.declared.Dot.{Dot}
-use Rattle.dots.specs.Dot.{actorOf, clocks, dot}
-use Rattle.dots.specs.Clock.{Clock, count, merged}
-use Rattle.dots.specs.Covering.{count-same, count-other}
-use Rattle.replica.specs.Replica.{Entry, Wait, Replica, entryRows, waits, memberSets}
+use Rattle.dots.specs.Clock.{Clock}
+use Rattle.replica.specs.Replica.{Entry, Wait, waits, memberSets}
 use Rattle.replica.specs.Kills.{killsOf}
 use Rattle.replica.specs.Limits.{full}
 use Rattle.layout.specs.Fields.{u32At}
-use Rattle.layout.specs.Clock.{narrow, dotsAt, clockAt, clockIn}
-use Rattle.layout.specs.Rows.{rowsAt, rowsEnd, waitsAt, waitsEnd}
+use Rattle.layout.specs.Clock.{dotsAt, clockIn}
+use Rattle.layout.specs.Rows.{waitsAt, waitsEnd}
 use Rattle.layout.specs.Image.{imageIn, imageOf, entriesStart, entriesCount, waitsStart, waitsCount}
 use Rattle.layout.specs.Formed.{WaitFine}
 use Rattle.layout.specs.Checks.{Passed, rows-rise, waits-rise}
@@ -73,5 +67,5 @@ module _ (s : List ℕ) (P : Passed s) (short : length s ≤ 18268) where
         clock-ok = f .normal-ok;
         members-ok = record { asc = rw (map-self (w .members)) (f .rises-ok); proper = proper (w .members) };
         few = f .few-ok;
-        named = f .named-ok;
+        named = let n : length (w .members) ≤ 32 = f .named-ok in omega arith;
       }

@@ -1,23 +1,23 @@
 -- The members of two lists in bytes, each once.
-use Prim.Native.Nat.{ℕ, zero, suc, _+_, _*_, _-_, _≤_, _<_, min}
+use Prim.Native.Nat.{ℕ, _+_, _*_, _-_, _≤_, _<_, min}
 use mathlib.Core.Path.{_≡_, refl, sym, ap, ap₂, _∙_}
 use mathlib.Core.Bool.{Bool, true, false, _||_, false≢true}
-use mathlib.Core.List.{List, [], _∷_, _++_}
+use mathlib.Core.List.{List, []}
 use native.Mathlib.Omega.{arith}
 use native.Mathlib.Nat.{add-zero, zero-add, mul-zero}
 use lib.Dec.{eqb}
 use lib.ListN.{length}
 use lib.Seq.{sets, length-sets}
 use Rattle.tables.specs.Stores.{sets-append}
-use Rattle.tables.specs.Table.{pick, cons?}
-use Rattle.tables.specs.Zip.{zip, zip-nil, said, past, Rise, rise-past, zip-step, by-lt}
-use Rattle.replica.specs.Replica.{memberRows, memberSets, member?}
+use Rattle.tables.specs.Table.{pick}
+use Rattle.tables.specs.Zip.{zip-nil, said, past, Rise, rise-past, zip-step, by-lt}
+use Rattle.replica.specs.Replica.{memberRows, memberSets}
 use Rattle.layout.specs.Fields.{u32At, le32, length-le32}
 use Rattle.layout.specs.Lists.{listAt, bytesOf}
 use Rattle.layout.specs.Rows.{memberEnd, membersAt, encodeMembers}
 use Rattle.merging.specs.declared.waits.Names.{Names}
-use Rattle.merging.specs.Ahead.{keyAhead, hits, Met, front-ahead, said-ahead, past-ahead}
-use Rattle.merging.specs.Waits.{bothSets}
+use Rattle.merging.specs.Ahead.{keyAhead, Met, front-ahead, said-ahead, past-ahead}
+use Rattle.changing.specs.KeptWaits.{bothSets}
 use Rattle.merging.specs.Waiting.{Named, MembersReady, WroteMembers}
 use Rattle.merging.proofs.RowSteps.{met-one}
 

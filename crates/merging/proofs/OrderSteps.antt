@@ -1,17 +1,16 @@
 -- Orders as numbers, and the comparison of two clocks in bytes.
 use Prim.Native.Nat.{ℕ, zero, suc, _+_, _*_, _-_, _≤_, _<_, min, max, compare, Ordering, Ordering·lt, Ordering·eq, Ordering·gt}
-use mathlib.Core.Path.{_≡_, refl, sym, ap, ap₂, _∙_}
-use mathlib.Core.Bool.{Bool, true, false, _&&_}
+use mathlib.Core.Path.{_≡_, refl, sym, ap, _∙_}
+use mathlib.Core.Bool.{Bool, false, _&&_}
 use mathlib.Core.List.{List, [], _∷_}
 use native.Mathlib.Omega.{arith}
-use native.Mathlib.Nat.{add-zero}
 use lib.Dec.{eqb, leb}
 use lib.ListN.{getD}
 use borrow.Author.Tests.{ne-eqb, lt-leb, le-leb}
 use Rattle.tables.specs.Order.{next, lex, self, lt-gt, nat-order, lt-nat}
-use Rattle.tables.specs.Zip.{said, past, by-lt, turnOf}
-use Rattle.dots.specs.Dot.{cmpDot, dots, dot}
-use Rattle.dots.specs.Clock.{Clock, cmpClock}
+use Rattle.tables.specs.Zip.{said, past, turnOf}
+use Rattle.dots.specs.Dot.{cmpDot, dots}
+use Rattle.dots.specs.Clock.{Clock}
 use Rattle.dots.specs.Covering.{coverOf}
 use Rattle.replica.specs.Replica.{waits}
 use Rattle.layout.specs.Fields.{u32At, u64At}
@@ -114,17 +113,17 @@ module _ (s : List ℕ) (p : ℕ) (t : List ℕ) (q : ℕ) where
 
 -- ---- covering
 
-module _ (vs va vb : List ℕ) (s : List ℕ) (k : ℕ) (whole : Bool) (i at left : ℕ) (z : coverOf (dotsFrom vs va vb i (k - i)) (dotsAt s at left) ≡ whole) where
-  cover-step : i < k → (leb (said dots (getD vs i 0) (dotsAt s at left)) (max (getD va i 0) (getD vb i 0)) && coverOf (dotsFrom vs va vb (i + 1) (k - (i + 1))) (past dots (getD vs i 0) (dotsAt s at left))) ≡ whole
+module _ (vs cs : List ℕ) (s : List ℕ) (k : ℕ) (whole : Bool) (i at left : ℕ) (z : coverOf (dotsFrom vs cs i (k - i)) (dotsAt s at left) ≡ whole) where
+  cover-step : i < k → (leb (said dots (getD vs i 0) (dotsAt s at left)) (getD cs i 0) && coverOf (dotsFrom vs cs (i + 1) (k - (i + 1))) (past dots (getD vs i 0) (dotsAt s at left))) ≡ whole
   unfolding coverOf dotsFrom
   cover-step h = let e : k - i ≡ suc (k - (i + 1)) = omega arith in rw e at z
 
-  pub cover-less : i < k → (u w : ℕ) → u ≡ said dots (getD vs i 0) (dotsAt s at left) → w ≡ max (getD va i 0) (getD vb i 0) → w < u → false ≡ whole
-  cover-less h u w eu ew l = rw (lt-leb (said dots (getD vs i 0) (dotsAt s at left)) (max (getD va i 0) (getD vb i 0)) (omega arith)) at (cover-step h)
+  pub cover-less : i < k → (u w : ℕ) → u ≡ said dots (getD vs i 0) (dotsAt s at left) → w ≡ getD cs i 0 → w < u → false ≡ whole
+  cover-less h u w eu ew l = rw (lt-leb (said dots (getD vs i 0) (dotsAt s at left)) (getD cs i 0) (omega arith)) at (cover-step h)
 
-  pub cover-on : i < k → (u w : ℕ) → u ≡ said dots (getD vs i 0) (dotsAt s at left) → w ≡ max (getD va i 0) (getD vb i 0) → u ≤ w
-      → coverOf (dotsFrom vs va vb (i + 1) (k - (i + 1))) (past dots (getD vs i 0) (dotsAt s at left)) ≡ whole
-  cover-on h u w eu ew l = rw (le-leb (said dots (getD vs i 0) (dotsAt s at left)) (max (getD va i 0) (getD vb i 0)) (omega arith)) at (cover-step h)
+  pub cover-on : i < k → (u w : ℕ) → u ≡ said dots (getD vs i 0) (dotsAt s at left) → w ≡ getD cs i 0 → u ≤ w
+      → coverOf (dotsFrom vs cs (i + 1) (k - (i + 1))) (past dots (getD vs i 0) (dotsAt s at left)) ≡ whole
+  cover-on h u w eu ew l = rw (le-leb (said dots (getD vs i 0) (dotsAt s at left)) (getD cs i 0) (omega arith)) at (cover-step h)
 
   pub cover-end : k ≤ i → eqb left 0 ≡ whole
   unfolding coverOf dotsFrom listAt
@@ -134,5 +133,5 @@ module _ (vs va vb : List ℕ) (s : List ℕ) (k : ℕ) (whole : Bool) (i at lef
       go zero y = y
       go (suc n) y = ne-eqb (suc n) 0 (λ x. omega arith) ∙ y
 
-pub cover-begin : (vs va vb : List ℕ) (k : ℕ) (c : Clock) → coverOf (dotsFrom vs va vb 0 (k - 0)) c ≡ coverOf (dotsFrom vs va vb 0 k) c
-cover-begin vs va vb k c = let e : k - 0 ≡ k = omega arith in rw e
+pub cover-begin : (vs cs : List ℕ) (k : ℕ) (c : Clock) → coverOf (dotsFrom vs cs 0 (k - 0)) c ≡ coverOf (dotsFrom vs cs 0 k) c
+cover-begin vs cs k c = let e : k - 0 ≡ k = omega arith in rw e

@@ -1,22 +1,21 @@
 -- The loop over the entries of two images.
-use Prim.Native.Nat.{ℕ, zero, suc, _+_, _*_, _-_, _%_, _≤_, _<_, max, min}
-use mathlib.Core.Path.{_≡_, refl, sym, ap, ap₂, _∙_, subst}
+use Prim.Native.Nat.{ℕ, zero, suc, _+_, _*_, _%_, _≤_, _<_, max, min}
+use mathlib.Core.Path.{_≡_, refl, sym, ap, ap₂, _∙_}
 use mathlib.Core.Logic.{_⊎_, inl, inr}
 use mathlib.Core.Bool.{Bool, true, false}
-use mathlib.Core.List.{List, [], _∷_, _++_, map}
+use mathlib.Core.List.{List, [], _∷_}
 use native.Mathlib.Omega.{arith}
 use native.Mathlib.Nat.{add-zero, zero-add}
 use native.Mathlib.Numerals.{add-one}
-use lib.Dec.{eqb, ltb}
+use lib.Dec.{eqb}
 use lib.ListN.{length, getD, take, drop, length-append}
 use lib.Seq.{sets, length-sets, drop-cons}
 use borrow.Author.Tests.{eqb-true, le-ltb}
-use Rattle.tables.specs.Order.{nat-order}
 use Rattle.tables.specs.Table.{pick, cons?}
-use Rattle.tables.specs.Zip.{kind, zip, front, said, past, Rise, rise-past, zip-step, zip-nil, tail}
+use Rattle.tables.specs.Zip.{zip, said, past, Rise, rise-past, zip-step, zip-nil, tail}
 use Rattle.tables.specs.Walk.{walked}
-use Rattle.dots.specs.Dot.{dots, dot?, actorOf}
-use Rattle.dots.specs.Clock.{Clock, count, merged}
+use Rattle.dots.specs.Dot.{dots, dot?}
+use Rattle.dots.specs.Clock.{Clock, count}
 use Rattle.replica.specs.Replica.{Entry, Replica, entry?, entryRows, entries}
 use Rattle.replica.specs.Kills.{killsOf}
 use Rattle.layout.specs.Fields.{u32At}
@@ -25,7 +24,7 @@ use Rattle.layout.specs.Form.{length-listAt}
 use Rattle.layout.specs.Rows.{rowIn, rowAt, rowEnd, rowsAt, rowsEnd, encodeRow, encodeRows}
 use Rattle.merging.specs.declared.entries.Rows.{Rows}
 use Rattle.merging.specs.Ahead.{keyAhead, front-ahead, wrote, length-cons, bytes-cons}
-use Rattle.merging.specs.Entries.{keepOf, lineOf, keptClock, keptEntries}
+use Rattle.changing.specs.Kept.{keepOf, lineOf, keptClock, keptEntries}
 use Rattle.merging.specs.Keeping.{linesFrom, keptAlong}
 use Rattle.merging.specs.Rowing.{Side, Ready, turnEntry, MergedRow, WroteRows}
 
@@ -80,10 +79,10 @@ module _ (vs va ka : List ℕ) (ja : ℕ) (vb kb : List ℕ) (ib N : ℕ) (f g :
 
 -- ---- the invariant
 
-abbrev pub rowsLeft : Replica → Replica → List ℕ → List ℕ → Rows → List Entry
-rowsLeft A B s t w = zip entries (keptClock (merged (A .clock) (B .clock)) A B) (rowsAt s (w .p) (w .m)) (rowsAt t (w .q) (w .k))
+abbrev pub rowsLeft : List ℕ → Replica → Replica → List ℕ → List ℕ → Rows → List Entry
+rowsLeft cs A B s t w = zip entries (keptClock cs A B) (rowsAt s (w .p) (w .m)) (rowsAt t (w .q) (w .k))
 
-pub record Rowing (A B : Replica) (s t : List ℕ) (m k at : ℕ) (ea eb : ℕ) (out₀ out : List ℕ) (w : Rows) : Type 0 where
+pub record Rowing (cs : List ℕ) (A B : Replica) (s t : List ℕ) (m k at : ℕ) (ea eb : ℕ) (out₀ out : List ℕ) (w : Rows) : Type 0 where
   pub left : rowsAt s (w .p) (w .m) ≡ drop (w .i) (A .entries)
   pub right : rowsAt t (w .q) (w .k) ≡ drop (w .j) (B .entries)
   pub left-edge : rowsEnd s (w .p) (w .m) ≡ ea
@@ -95,9 +94,9 @@ pub record Rowing (A B : Replica) (s t : List ℕ) (m k at : ℕ) (ea eb : ℕ) 
   pub room : w .at ≤ at + 200 * (w .i + w .j)
   pub few : w .n ≤ w .i + w .j
   pub size : length out ≡ length out₀
-  pub count : w .n + length (rowsLeft A B s t w) ≡ length (keptEntries A B)
-  pub ends : w .at + length (encodeRows (rowsLeft A B s t w)) ≡ at + length (encodeRows (keptEntries A B))
-  pub store : sets out (w .at) (encodeRows (rowsLeft A B s t w)) ≡ sets out₀ at (encodeRows (keptEntries A B))
+  pub count : w .n + length (rowsLeft cs A B s t w) ≡ length (keptEntries cs A B)
+  pub ends : w .at + length (encodeRows (rowsLeft cs A B s t w)) ≡ at + length (encodeRows (keptEntries cs A B))
+  pub store : sets out (w .at) (encodeRows (rowsLeft cs A B s t w)) ≡ sets out₀ at (encodeRows (keptEntries cs A B))
 
 keyed : (s : List ℕ) (p : ℕ) → entryRows .key (rowAt s p) ≡ u32At s p
 unfolding rowIn
@@ -138,17 +137,20 @@ lines-at A s p m vs va k n es h low j (r ∷ rows) e f = go (eqb (r .member) low
         ap₂ max (h .clock i l) (rw (z, ← y) (h .lines j i r rows (sym e) l)))
 
 module _ (A B : Replica) (s : List ℕ) (p m : ℕ) (t : List ℕ) (q k : ℕ) (vs : List ℕ) (n : ℕ) (va ka vb kb : List ℕ) (R : Ready A B s p m t q k vs n va ka vb kb) where
+  abbrev cs : List ℕ
+  cs = take n vs
+
   -- the turn's entry is the kept one
   turn-kept : (low : ℕ) (w : Rows) (xs ys : List Entry) → xs ≡ drop (w .i) (A .entries) → ys ≡ drop (w .j) (B .entries) → w .i + length xs ≤ 64 → w .j + length ys ≤ 64
-      → turnEntry vs n va ka vb kb low w xs ys ≡ entry? low (keptClock (merged (A .clock) (B .clock)) A B low (said entryRows low xs) (said entryRows low ys))
+      → turnEntry vs n va ka vb kb low w xs ys ≡ entry? low (keptClock cs A B low (said entryRows low xs) (said entryRows low ys))
   unfolding keptClock
   turn-kept low w xs ys ex ey fx fy = ap (entry? low)
       (lines-walked vs va ka (16 * (w .j % 64)) vb kb (16 * (w .i % 64)) n (lineOf A low) (lineOf B low) 0 n (said entryRows low xs) (said entryRows low ys) (omega arith)
       (lines-at B t q k vs vb kb n (A .entries) (R .theirs) low (w .i) xs ex fx)
       (lines-at A s p m vs va ka n (B .entries) (R .ours) low (w .j) ys ey fy)
-      ∙ ap (λ (l : List ℕ). walked dots (λ a. keepOf (lineOf A low a) (lineOf B low a)) l (said entryRows low xs) (said entryRows low ys)) (actors-take vs 0 n (let l = R .long in omega arith) ∙ R .actors))
+      ∙ ap (λ (l : List ℕ). walked dots (λ a. keepOf (lineOf A low a) (lineOf B low a)) l (said entryRows low xs) (said entryRows low ys)) (actors-take vs 0 n (let l = R .long in omega arith)))
 
-  pub rows-begin : (at : ℕ) (out : List ℕ) → Rowing A B s t m k at (rowsEnd s p m) (rowsEnd t q k) out out (record { p = p; m = m; i = 0; q = q; k = k; j = 0; at = at; n = 0 })
+  pub rows-begin : (at : ℕ) (out : List ℕ) → Rowing cs A B s t m k at (rowsEnd s p m) (rowsEnd t q k) out out (record { p = p; m = m; i = 0; q = q; k = k; j = 0; at = at; n = 0 })
   unfolding keptEntries
   rows-begin at out =
       let a = R .ours .rows in let b = R .theirs .rows in
@@ -169,21 +171,21 @@ module _ (A B : Replica) (s : List ℕ) (p m : ℕ) (t : List ℕ) (q k : ℕ) (
         store = rw (a, b);
       }
 
-  module _ {at : ℕ} {out₀ out : List ℕ} {w : Rows} (z : Rowing A B s t m k at (rowsEnd s p m) (rowsEnd t q k) out₀ out w) where
+  module _ {at : ℕ} {out₀ out : List ℕ} {w : Rows} (z : Rowing cs A B s t m k at (rowsEnd s p m) (rowsEnd t q k) out₀ out w) where
     pub rows-again : (out′ : List ℕ) (w′ : Rows) → MergedRow s t vs n va ka vb kb (min (keyAhead s (w .p) (w .m)) (keyAhead t (w .q) (w .k))) out w out′ w′
-        → Rowing A B s t m k at (rowsEnd s p m) (rowsEnd t q k) out₀ out′ w′
+        → Rowing cs A B s t m k at (rowsEnd s p m) (rowsEnd t q k) out₀ out′ w′
     rows-again out′ w′ d =
         let small = d .small in
         let low = min (keyAhead s (w .p) (w .m)) (keyAhead t (w .q) (w .k)) in
         let xs = rowsAt s (w .p) (w .m) in
         let ys = rowsAt t (w .q) (w .k) in
-        let h = keptClock (merged (A .clock) (B .clock)) A B in
+        let h = keptClock cs A B in
         let o = entry? low (h low (said entryRows low xs) (said entryRows low ys)) in
         let lx = length-listAt rowAt rowEnd s (w .p) (w .m) in
         let ly = length-listAt rowAt rowEnd t (w .q) (w .k) in
         let ls = z .left-step in let rs = z .right-step in let fa = R .ours .few in let fb = R .theirs .few in
         let e : turnEntry vs n va ka vb kb low w xs ys ≡ o = turn-kept low w xs ys (z .left) (z .right) (omega arith) (omega arith) in
-        let step : zip entries h xs ys ≡ cons? o (rowsLeft A B s t w′) =
+        let step : zip entries h xs ys ≡ cons? o (rowsLeft cs A B s t w′) =
         zip-step entryRows h 4294967296 low xs ys (z .left-rise) (z .right-rise) small (ap₂ min (front-ahead entryRows rowAt rowEnd keyed s (w .p) (w .m)) (front-ahead entryRows rowAt rowEnd keyed t (w .q) (w .k)))
         ∙ ap (cons? o) (ap₂ (zip entries h) (sym (d .left)) (sym (d .right))) in
         let one = length-some low (h low (said entryRows low xs) (said entryRows low ys)) in
@@ -203,19 +205,19 @@ module _ (A B : Replica) (s : List ℕ) (p m : ℕ) (t : List ℕ) (q k : ℕ) (
           room = omega arith;
           few = omega arith;
           size = ap length by ∙ length-sets out (w .at) (encodeRows (cons? o [])) ∙ z .size;
-          count = let f = length-cons encodeRow o (rowsLeft A B s t w′) in let g = ap length step in let c = z .count in omega arith;
-          ends = let f : length (encodeRows (cons? o (rowsLeft A B s t w′))) ≡ length (encodeRows (cons? o [])) + length (encodeRows (rowsLeft A B s t w′)) = ap length (bytes-cons encodeRow o (rowsLeft A B s t w′)) ∙ simp length-append in
+          count = let f = length-cons encodeRow o (rowsLeft cs A B s t w′) in let g = ap length step in let c = z .count in omega arith;
+          ends = let f : length (encodeRows (cons? o (rowsLeft cs A B s t w′))) ≡ length (encodeRows (cons? o [])) + length (encodeRows (rowsLeft cs A B s t w′)) = ap length (bytes-cons encodeRow o (rowsLeft cs A B s t w′)) ∙ simp length-append in
               let g = ap (λ (l : List Entry). length (encodeRows l)) step in let c = z .ends in omega arith;
-          store = rw (by, en) (wrote encodeRow out (w .at) o (rowsLeft A B s t w′)) ∙ ap (λ (l : List Entry). sets out (w .at) (encodeRows l)) (sym step) ∙ z .store;
+          store = rw (by, en) (wrote encodeRow out (w .at) o (rowsLeft cs A B s t w′)) ∙ ap (λ (l : List Entry). sets out (w .at) (encodeRows l)) (sym step) ∙ z .store;
         }
 
-    pub rows-end : w .m + w .k ≡ 0 → WroteRows out₀ at (keptEntries A B) out (w .n) (w .at)
+    pub rows-end : w .m + w .k ≡ 0 → WroteRows out₀ at (keptEntries cs A B) out (w .n) (w .at)
     unfolding listAt bytesOf
     rows-end e =
         let em : w .m ≡ 0 = omega arith in
         let ek : w .k ≡ 0 = omega arith in
         let fw = z .few in let ro = z .room in let ls = z .left-step in let rs = z .right-step in let fa = R .ours .few in let fb = R .theirs .few in
-        let nil : rowsLeft A B s t w ≡ [] = rw (em, ek) (zip-nil entries (keptClock (merged (A .clock) (B .clock)) A B)) in
+        let nil : rowsLeft cs A B s t w ≡ [] = rw (em, ek) (zip-nil entries (keptClock cs A B)) in
         record {
           count = rw (nil, add-zero) at (z .count);
           ends = rw (nil, add-zero) at (z .ends);

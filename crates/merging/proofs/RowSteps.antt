@@ -7,21 +7,20 @@ use native.Mathlib.Omega.{arith}
 use native.Mathlib.Nat.{add-zero, add-suc, suc-add}
 use lib.Dec.{eqb}
 use lib.ListN.{length, set, length-append}
-use lib.Seq.{sets, set-comm, length-sets}
-use borrow.Author.Tests.{eq-eqb, ne-eqb, eqb-true}
+use lib.Seq.{sets, set-comm}
+use borrow.Author.Tests.{eq-eqb, ne-eqb}
 use Rattle.tables.specs.Table.{pick, cons?}
 use Rattle.tables.specs.Zip.{said, past, by-lt}
-use Rattle.dots.specs.declared.Dot.{Dot}
 use Rattle.dots.specs.Clock.{Clock}
-use Rattle.replica.specs.Replica.{Entry, entry?, entryRows}
+use Rattle.replica.specs.Replica.{entry?, entryRows}
 use Rattle.layout.specs.Fields.{u32At, le32, length-le32}
 use Rattle.layout.specs.Lists.{listAt, endAfter, bytesOf}
-use Rattle.layout.specs.Clock.{narrow, dotsAt, encodeDots, clockIn, clockEndIn, encodeClockIn}
+use Rattle.layout.specs.Clock.{dotsAt, encodeDots, clockIn, clockEndIn, encodeClockIn}
 use Rattle.layout.specs.Rows.{rowIn, rowEndIn, rowAt, rowEnd, rowsAt, rowsEnd, encodeRows, encodeRowIn}
 use Rattle.merging.specs.declared.entries.Rows.{Rows}
 use Rattle.merging.specs.Ahead.{keyAhead, KeyAhead, hits, Met, said-ahead, past-ahead}
 use Rattle.merging.specs.Keeping.{KeptDots, linesFrom, keptAlong}
-use Rattle.merging.specs.Rowing.{turnEntry, MergedRow}
+use Rattle.merging.specs.Rowing.{MergedRow}
 use Rattle.merging.proofs.KeepSteps.{length-dots}
 
 -- ---- a run of stores before another

@@ -1,27 +1,26 @@
 -- The loop over the waiting removes of two images.
-use Prim.Native.Nat.{ℕ, zero, suc, _+_, _*_, _≤_, _<_, max, Ordering, Ordering·lt, Ordering·eq, Ordering·gt}
+use Prim.Native.Nat.{ℕ, zero, suc, _+_, _≤_, _<_, max, Ordering, Ordering·lt, Ordering·eq, Ordering·gt}
 use mathlib.Core.Path.{_≡_, refl, sym, ap, ap₂, _∙_, subst}
-use mathlib.Core.Bool.{Bool, true, false}
 use mathlib.Core.Option.{Option, none, some}
 use mathlib.Core.List.{List, [], _∷_}
 use native.Mathlib.Omega.{arith}
 use native.Mathlib.Nat.{add-zero, zero-add}
 use lib.ListN.{length, length-append}
 use lib.Seq.{sets, length-sets}
-use Rattle.tables.specs.Table.{Normal, All, all-map, pick, cons?}
-use Rattle.tables.specs.Zip.{tail, turnOf, left-after, right-after, Ascend, ascend-left, ascend-right}
+use Rattle.tables.specs.Table.{Normal, All, all-map, cons?}
+use Rattle.tables.specs.Zip.{turnOf, left-after, right-after, Ascend, ascend-left, ascend-right}
 use Rattle.dots.specs.Dot.{clocks}
-use Rattle.dots.specs.Clock.{Clock, covers, merged}
-use Rattle.dots.specs.Covering.{coverOf, cover-is}
-use Rattle.replica.specs.Replica.{Wait, Replica, waits, memberSets}
+use Rattle.dots.specs.Clock.{Clock}
+use Rattle.dots.specs.Covering.{cover-is}
+use Rattle.replica.specs.Replica.{Wait, waits, memberSets}
 use Rattle.layout.specs.Lists.{listAt, bytesOf}
 use Rattle.layout.specs.Form.{length-listAt}
 use Rattle.layout.specs.Rows.{waitsAt, waitsEnd, waitEnd, waitAtPlace, encodeWait, encodeWaits}
 use Rattle.merging.specs.declared.waits.Waits.{Waits}
 use Rattle.merging.specs.Ahead.{wrote, length-cons, bytes-cons}
-use Rattle.merging.specs.Waits.{keptWaits, nextClock, nextWait, first, waits-turn, waits-end}
+use Rattle.changing.specs.KeptWaits.{keptWaits, nextClock, nextWait, first, waits-turn, waits-end}
 use Rattle.merging.proofs.WaitSteps.{end-ge}
-use Rattle.merging.specs.Waiting.{dotsFrom, mostNamed, Sound, WaitsAhead, turnWait, MergedWait, WaitsReady, WroteWaits}
+use Rattle.merging.specs.Waiting.{mostNamed, Sound, WaitsAhead, turnWait, MergedWait, WaitsReady, WroteWaits}
 
 -- ---- what the turns keep
 
@@ -78,13 +77,9 @@ pub record Waiting (v : Clock) (s t : List ℕ) (p m q k at : ℕ) (out₀ : Lis
   pub most : max (w .most) (mostNamed (waitsLeft v s t w)) ≡ mostNamed whole
   pub store : sets out (w .at) (encodeWaits (waitsLeft v s t w)) ≡ sets out₀ at (encodeWaits whole)
 
-module _ (A B : Replica) (s : List ℕ) (p m : ℕ) (t : List ℕ) (q k : ℕ) (vs : List ℕ) (n : ℕ) (va vb : List ℕ) (R : WaitsReady A B s p m t q k vs n va vb) where
-  abbrev both : Clock
-  both = merged (A .clock) (B .clock)
-
-  pub waits-begin : (at : ℕ) (out : List ℕ) → Waiting both s t p m q k at out (keptWaits both (A .waiting) (B .waiting)) out (record { p = p; m = m; q = q; k = k; at = at; n = 0; most = 0 })
+module _ (v : Clock) (s : List ℕ) (p m : ℕ) (t : List ℕ) (q k : ℕ) (R : WaitsReady v s p m t q k) where
+  pub waits-begin : (at : ℕ) (out : List ℕ) → Waiting v s t p m q k at out (keptWaits v (waitsAt s p m) (waitsAt t q k)) out (record { p = p; m = m; q = q; k = k; at = at; n = 0; most = 0 })
   waits-begin at out =
-      let a = R .left in let b = R .right in
       record {
         left-rise = R .left-rise;
         right-rise = R .right-rise;
@@ -95,19 +90,19 @@ module _ (A B : Replica) (s : List ℕ) (p m : ℕ) (t : List ℕ) (q k : ℕ) (
         few = omega arith;
         room = omega arith;
         size = refl;
-        count = rw (a, b, zero-add);
-        ends = rw (a, b);
-        most = rw (a, b) (omega arith);
-        store = rw (a, b);
+        count = zero-add _;
+        ends = refl;
+        most = omega arith;
+        store = refl;
       }
 
-  module _ {at : ℕ} {out₀ : List ℕ} {whole : List Wait} {out : List ℕ} {w : Waits} (z : Waiting both s t p m q k at out₀ whole out w) where
+  module _ {at : ℕ} {out₀ : List ℕ} {whole : List Wait} {out : List ℕ} {w : Waits} (z : Waiting v s t p m q k at out₀ whole out w) where
     pub waits-ahead : 0 < w .m + w .k → WaitsAhead s t w
     waits-ahead h =
         let la = R .left-edge in let lb = R .right-edge in let ea = z .left-edge in let eb = z .right-edge in
         record { more = h; left-rise = z .left-rise; right-rise = z .right-rise; left-sound = z .left-sound; right-sound = z .right-sound; left-edge = omega arith; right-edge = omega arith }
 
-    pub waits-again : 0 < w .m + w .k → (out′ : List ℕ) (w′ : Waits) → MergedWait (dotsFrom vs va vb 0 n) s t out w out′ w′ → Waiting both s t p m q k at out₀ whole out′ w′
+    pub waits-again : 0 < w .m + w .k → (out′ : List ℕ) (w′ : Waits) → MergedWait v s t out w out′ w′ → Waiting v s t p m q k at out₀ whole out′ w′
     unfolding nextWait
     waits-again h out′ w′ d =
         let xs = waitsAt s (w .p) (w .m) in
@@ -116,11 +111,11 @@ module _ (A B : Replica) (s : List ℕ) (p m : ℕ) (t : List ℕ) (q k : ℕ) (
         let y = waitAtPlace t (w .q) in
         let lx = length-listAt waitAtPlace waitEnd s (w .p) (w .m) in
         let ly = length-listAt waitAtPlace waitEnd t (w .q) (w .k) in
-        let r = nextWait both (d .side) x y in
+        let r = nextWait v (d .side) x y in
         let cl : Normal clocks (nextClock (d .side) x y) = subst (λ (c : Clock). Normal clocks c) (ap₂ (nextClock (d .side)) (first-at s (w .p) (w .m)) (first-at t (w .q) (w .k))) (next-normal (d .side) xs ys x y (d .turn) (omega arith) (z .left-sound) (z .right-sound)) in
-        let same : turnWait (dotsFrom vs va vb 0 n) (d .side) x y ≡ r = rw (R .clock, cover-is both (nextClock (d .side) x y) (R .clock-ok) cl) in
-        let step : keptWaits both xs ys ≡ cons? r (waitsLeft both s t w′) =
-        waits-turn both x y xs ys (z .left-rise) (z .right-rise) (all-map Sound (λ w. Normal memberSets (w .members)) xs (λ w k. k .members-ok) (z .left-sound)) (all-map Sound (λ w. Normal memberSets (w .members)) ys (λ w k. k .members-ok) (z .right-sound))
+        let same : turnWait v (d .side) x y ≡ r = rw (cover-is v (nextClock (d .side) x y) (R .clock-ok) cl) in
+        let step : keptWaits v xs ys ≡ cons? r (waitsLeft v s t w′) =
+        waits-turn v x y xs ys (z .left-rise) (z .right-rise) (all-map Sound (λ w. Normal memberSets (w .members)) xs (λ w k. k .members-ok) (z .left-sound)) (all-map Sound (λ w. Normal memberSets (w .members)) ys (λ w k. k .members-ok) (z .right-sound))
         (λ a b. let la : length xs ≡ 0 = rw a in let lb : length ys ≡ 0 = rw b in absurd (omega arith))
         ∙ rw (← (d .turn), first-at s (w .p) (w .m), first-at t (w .q) (w .k), d .left, d .right) in
         let cn : w′ .n ≡ w .n + length (cons? r []) = rw same at (d .count) in
@@ -139,11 +134,11 @@ module _ (A B : Replica) (s : List ℕ) (p m : ℕ) (t : List ℕ) (q k : ℕ) (
           few = omega arith;
           room = omega arith;
           size = ap length by ∙ length-sets out (w .at) (encodeWaits (cons? r [])) ∙ z .size;
-          count = let f = length-cons encodeWait r (waitsLeft both s t w′) in let g = ap length step in let c = z .count in omega arith;
-          ends = let f : length (encodeWaits (cons? r (waitsLeft both s t w′))) ≡ length (encodeWaits (cons? r [])) + length (encodeWaits (waitsLeft both s t w′)) = ap length (bytes-cons encodeWait r (waitsLeft both s t w′)) ∙ simp length-append in
+          count = let f = length-cons encodeWait r (waitsLeft v s t w′) in let g = ap length step in let c = z .count in omega arith;
+          ends = let f : length (encodeWaits (cons? r (waitsLeft v s t w′))) ≡ length (encodeWaits (cons? r [])) + length (encodeWaits (waitsLeft v s t w′)) = ap length (bytes-cons encodeWait r (waitsLeft v s t w′)) ∙ simp length-append in
               let g = ap (λ (l : List Wait). length (encodeWaits l)) step in let c = z .ends in omega arith;
-          most = let f = most-cons r (waitsLeft both s t w′) in let g = ap mostNamed step in let c = z .most in omega arith;
-          store = rw (by, en) (wrote encodeWait out (w .at) r (waitsLeft both s t w′)) ∙ ap (λ (l : List Wait). sets out (w .at) (encodeWaits l)) (sym step) ∙ z .store;
+          most = let f = most-cons r (waitsLeft v s t w′) in let g = ap mostNamed step in let c = z .most in omega arith;
+          store = rw (by, en) (wrote encodeWait out (w .at) r (waitsLeft v s t w′)) ∙ ap (λ (l : List Wait). sets out (w .at) (encodeWaits l)) (sym step) ∙ z .store;
         }
       where
         length-one : (r : Option Wait) → length (cons? r []) ≤ 1
@@ -157,7 +152,7 @@ module _ (A B : Replica) (s : List ℕ) (p m : ℕ) (t : List ℕ) (q k : ℕ) (
         let ek : w .k ≡ 0 = omega arith in
         let fw = z .few in let ro = z .room in let fa = R .left-few in let fb = R .right-few in let ea = R .left-edge in let eb = R .right-edge in let za = z .left-edge in let zb = z .right-edge in
         let ga = end-ge s (w .p) (w .m) in let gb = end-ge t (w .q) (w .k) in
-        let nil : waitsLeft both s t w ≡ [] = rw (em, ek) (waits-end both) in
+        let nil : waitsLeft v s t w ≡ [] = rw (em, ek) (waits-end v) in
         record {
           count = rw (nil, add-zero) at (z .count);
           ends = rw (nil, add-zero) at (z .ends);

@@ -1,12 +1,11 @@
 -- One turn of the loop over the waiting removes of two images.
 use Prim.Native.Nat.{ℕ, zero, suc, _+_, _*_, _-_, _≤_, _<_, max, min, Ordering, Ordering·lt, Ordering·eq, Ordering·gt}
-use mathlib.Core.Path.{_≡_, refl, sym, ap, ap₂, _∙_, subst}
+use mathlib.Core.Path.{_≡_, refl, sym, ap, ap₂, _∙_}
 use mathlib.Core.Bool.{Bool, true, false, false≢true}
-use mathlib.Core.Option.{none, some}
-use mathlib.Core.List.{List, [], _∷_, _++_, append-assoc}
+use mathlib.Core.List.{List, [], _∷_, _++_}
 use native.Mathlib.Omega.{arith}
 use native.Mathlib.Nat.{add-zero}
-use lib.Dec.{eqb, T}
+use lib.Dec.{eqb}
 use lib.ListN.{length, length-append}
 use lib.Seq.{sets, length-sets}
 use borrow.Author.Tests.{ne-eqb}
@@ -21,13 +20,13 @@ use Rattle.replica.specs.Replica.{Wait, waits, memberRows}
 use Rattle.layout.specs.Fields.{u32At, le32, length-le32}
 use Rattle.layout.specs.Lists.{listAt, endAfter, bytesOf}
 use Rattle.layout.specs.Form.{length-listAt}
-use Rattle.layout.specs.Clock.{dotAt, dotsAt, encodeDots, clockIn, clockEndIn, clockAt, clockEnd, encodeClock, encodeClockIn}
-use Rattle.layout.specs.Rows.{membersAt, encodeMembers, waitIn, waitEndIn, waitsAt, waitsEnd, waitEnd, waitAtPlace, encodeWait, encodeWaits, encodeWaitIn}
+use Rattle.layout.specs.Clock.{dotAt, dotsAt, clockIn, clockEndIn, clockAt, clockEnd, encodeClock, encodeClockIn}
+use Rattle.layout.specs.Rows.{membersAt, encodeMembers, waitIn, waitEndIn, waitsAt, waitsEnd, waitEnd, waitAtPlace, encodeWaits, encodeWaitIn}
 use Rattle.fields.specs.Read.{clockRead, Put}
 use Rattle.merging.specs.declared.waits.Part.{Part}
 use Rattle.merging.specs.declared.waits.Put as putting
 use Rattle.merging.specs.declared.waits.Waits.{Waits}
-use Rattle.merging.specs.Waits.{bothSets, nextClock, nextLeft, nextRight}
+use Rattle.changing.specs.KeptWaits.{bothSets, nextClock, nextLeft, nextRight}
 use Rattle.merging.specs.Waiting as waiting
 use Rattle.merging.proofs.KeepSteps.{length-dots}
 use Rattle.merging.proofs.RowSteps.{sets-before}
@@ -147,7 +146,7 @@ pub record WaitSide (s : List ℕ) (p m : ℕ) (b : Bool) (x : Part) : Type 0 wh
   pub none-left : b ≡ false → x .count ≡ 0
   pub rise : Rise memberRows (membersAt s (x .names) (x .count))
   pub few : b ≡ true → u32At s p ≤ 16
-  pub named : x .count ≤ 32
+  pub named : x .count ≤ 512
 
 pub wait-side : (s : List ℕ) (p m : ℕ) (b : Bool) (x : Part) → waiting.PartAt s p (pick b 1 0) x → pick b 1 0 ≤ m → All waiting.Sound (waitsAt s p m) → WaitSide s p m b x
 unfolding listAt waitIn endAfter
@@ -286,7 +285,7 @@ pub record Numbers (s t : List ℕ) (w : Waits) (side i j : ℕ) (x y : Part) : 
   pub right-fits : j ≤ w .k
   pub moves : 0 < i + j
   pub clock-few : pick (eqb side 2) (u32At t (w .q)) (u32At s (w .p)) ≤ 16
-  pub few : x .count + y .count ≤ 64
+  pub few : x .count + y .count ≤ 1024
   pub room : 8 + 12 * pick (eqb side 2) (u32At t (w .q)) (u32At s (w .p)) + 4 * (x .count + y .count) + (w .p + w .q) ≤ x .end + y .end
 
 pub numbers : (s t : List ℕ) (w : Waits) (side i j : ℕ) (x y : Part) → i ≡ pick (eqb side 2) 0 1 → j ≡ pick (eqb side 0) 0 1 → Turned s t w side x y → Numbers s t w side i j x y

@@ -1,6 +1,6 @@
 -- What the loop over the dots of two entries computes.
 use Prim.Native.Nat.{ℕ, zero, suc, _+_, _*_, max}
-use mathlib.Core.Path.{_≡_, refl}
+use mathlib.Core.Path.{_≡_}
 use mathlib.Core.List.{List, [], _∷_}
 use lib.ListN.{length, getD}
 use lib.Seq.{sets}
@@ -11,7 +11,7 @@ use Rattle.dots.specs.Dot.{dots, dot?}
 use Rattle.dots.specs.Clock.{Clock}
 use Rattle.layout.specs.Clock.{dotsAt, encodeDots}
 use Rattle.merging.specs.declared.entries.Places.{Places}
-use Rattle.merging.specs.Entries.{keepOf}
+use Rattle.changing.specs.Kept.{keepOf}
 
 -- the dot of an actor, or none where its counter is 0
 abbrev pub dotList : ℕ → ℕ → Clock

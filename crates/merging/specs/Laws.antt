@@ -1,14 +1,13 @@
 -- Demand 3 over bytes: a merge's call does not depend on the order of its images, and a settled replica merges with itself to itself.
-use Prim.Native.Nat.{ℕ, _≤_}
-use mathlib.Core.Path.{_≡_, refl, sym, ap, ap₂, _∙_}
-use mathlib.Core.Bool.{Bool, true, false, not, _&&_}
+use Prim.Native.Nat.{ℕ}
+use mathlib.Core.Path.{_≡_, ap, _∙_}
+use mathlib.Core.Bool.{Bool, true, not, _&&_}
 use mathlib.Core.List.{List, [], _∷_}
 use lib.Dec.{T, eqb, leb}
 use lib.ListN.{length}
 use Rattle.tables.specs.Truth.{and-l}
 use Rattle.tables.specs.Table.{every}
-use Rattle.tables.specs.Refusal.{Refusal, _if_}
-use Rattle.replica.specs.Replica.{Replica}
+use Rattle.tables.specs.Refusal.{_if_}
 use Rattle.replica.specs.Rules.{merge, settled}
 use Rattle.replica.specs.WellFormed.{sound}
 use Rattle.replica.specs.Limits.{full, broken, wellFormed}
@@ -16,7 +15,6 @@ use Rattle.replica.specs.MergeLaws.{merge-commutes, merge-itself}
 use Rattle.layout.specs.Fields.{Bytes}
 use Rattle.layout.specs.Image.{goodImage, imageOf, encode}
 use Rattle.layout.specs.Main.{good-formed, encode-good}
-use Rattle.results.specs.Call.{Call, answerOf, outputOf}
 use Rattle.merging.specs.Merge.{mergeCall}
 
 sound-image : (b : List ℕ) → goodImage b ≡ true → T (sound (imageOf b))

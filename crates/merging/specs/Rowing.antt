@@ -1,14 +1,13 @@
 -- What the loop over the entries of two images starts from, what one turn leaves, and what the whole loop leaves.
-use Prim.Native.Nat.{ℕ, zero, suc, _+_, _*_, _%_, _≤_, _<_}
-use mathlib.Core.Path.{_≡_, refl}
+use Prim.Native.Nat.{ℕ, _+_, _*_, _%_, _≤_, _<_}
+use mathlib.Core.Path.{_≡_}
 use mathlib.Core.Option.{Option}
-use mathlib.Core.List.{List, [], _∷_, map}
-use lib.ListN.{length, getD, take, drop}
+use mathlib.Core.List.{List, [], _∷_}
+use lib.ListN.{length, getD, drop}
 use lib.Seq.{sets}
 use Rattle.tables.specs.Table.{cons?}
 use Rattle.tables.specs.Zip.{said, past, Rise}
-use Rattle.dots.specs.Dot.{actorOf}
-use Rattle.dots.specs.Clock.{Clock, count, merged}
+use Rattle.dots.specs.Clock.{count}
 use Rattle.replica.specs.Replica.{Entry, Replica, entry?, entryRows}
 use Rattle.replica.specs.Kills.{killsOf}
 use Rattle.layout.specs.Rows.{rowsAt, rowsEnd, encodeRows}
@@ -30,7 +29,6 @@ pub record Ready (A B : Replica) (s : List ℕ) (p m : ℕ) (t : List ℕ) (q k 
   pub theirs : Side B t q k vs vb kb n (A .entries)
   pub few : n ≤ 16
   pub long : n ≤ length vs
-  pub actors : take n vs ≡ map (λ d. actorOf d) (merged (A .clock) (B .clock))
 
 -- the entry that a turn gives to the member low
 abbrev pub turnEntry : List ℕ → ℕ → List ℕ → List ℕ → List ℕ → List ℕ → ℕ → Rows → List Entry → List Entry → Option Entry

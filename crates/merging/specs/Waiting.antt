@@ -1,19 +1,19 @@
 -- What the loops over the waiting removes of two images and over their members start from, and what they leave.
-use Prim.Native.Nat.{ℕ, zero, suc, _+_, _*_, _≤_, _<_, max, Ordering, Ordering·lt, Ordering·eq, Ordering·gt, compare}
-use mathlib.Core.Path.{_≡_, refl}
-use mathlib.Core.Bool.{Bool, _||_}
+use Prim.Native.Nat.{ℕ, zero, suc, _+_, _*_, _≤_, _<_, max, Ordering, Ordering·lt, Ordering·eq, Ordering·gt}
+use mathlib.Core.Path.{_≡_}
+use mathlib.Core.Bool.{Bool}
 use mathlib.Core.Option.{Option, none, some}
-use mathlib.Core.List.{List, [], _∷_, _++_, map}
+use mathlib.Core.List.{List, [], _∷_}
 use lib.Dec.{eqb}
 use lib.ListN.{length, getD}
 use lib.Seq.{sets}
 use Rattle.tables.specs.Table.{Normal, All, pick, cons?}
-use Rattle.tables.specs.Zip.{said, past, Rise, turnOf, left-after, right-after, Ascend}
+use Rattle.tables.specs.Zip.{Rise, turnOf, left-after, right-after, Ascend}
 use Rattle.dots.specs.declared.Dot.{Dot}
 use Rattle.dots.specs.Dot.{clocks, dot}
-use Rattle.dots.specs.Clock.{Clock, merged}
+use Rattle.dots.specs.Clock.{Clock}
 use Rattle.dots.specs.Covering.{coverOf}
-use Rattle.replica.specs.Replica.{Wait, Replica, waits, memberRows, memberSets}
+use Rattle.replica.specs.Replica.{Wait, waits, memberRows, memberSets}
 use Rattle.layout.specs.Fields.{u32At, le32}
 use Rattle.layout.specs.Clock.{clockEnd}
 use Rattle.layout.specs.Rows.{membersAt, encodeMembers, waitsAt, waitsEnd, waitEnd, waitAtPlace, encodeWaits}
@@ -21,7 +21,7 @@ use Rattle.merging.specs.declared.waits.Names.{Names}
 use Rattle.merging.specs.declared.waits.Part.{Part}
 use Rattle.merging.specs.declared.waits.Put.{Put}
 use Rattle.merging.specs.declared.waits.Waits.{Waits}
-use Rattle.merging.specs.Waits.{bothSets, nextClock, nextLeft, nextRight}
+use Rattle.changing.specs.KeptWaits.{bothSets, nextClock, nextLeft, nextRight}
 
 -- an order as a number
 abbrev pub orderOf : Ordering → ℕ
@@ -29,10 +29,10 @@ orderOf Ordering·lt = 0
 orderOf Ordering·eq = 1
 orderOf Ordering·gt = 2
 
--- n dots from k on: the actors, with the larger of two counters
-unfoldable pub dotsFrom : List ℕ → List ℕ → List ℕ → ℕ → ℕ → Clock
-dotsFrom vs va vb k zero = []
-dotsFrom vs va vb k (suc n) = dot (getD vs k 0) (max (getD va k 0) (getD vb k 0)) ∷ dotsFrom vs va vb (k + 1) n
+-- n dots from k on: the actors, with their counters
+unfoldable pub dotsFrom : List ℕ → List ℕ → ℕ → ℕ → Clock
+dotsFrom vs cs k zero = []
+dotsFrom vs cs k (suc n) = dot (getD vs k 0) (getD cs k 0) ∷ dotsFrom vs cs (k + 1) n
 
 -- ---- members
 
@@ -91,7 +91,7 @@ pub record Sound (w : Wait) : Type 0 where
   pub clock-ok : Normal clocks (w .clock)
   pub members-ok : Normal memberSets (w .members)
   pub few : length (w .clock) ≤ 16
-  pub named : length (w .members) ≤ 32
+  pub named : length (w .members) ≤ 512
 
 pub record WaitsAhead (s t : List ℕ) (w : Waits) : Type 0 where
   pub more : 0 < w .m + w .k
@@ -119,9 +119,7 @@ pub record MergedWait (v : Clock) (s t out : List ℕ) (w : Waits) (out′ : Lis
   pub most : w′ .most ≡ max (w .most) (mostNamed (cons? (turnWait v side (waitAtPlace s (w .p)) (waitAtPlace t (w .q))) []))
   pub bytes : out′ ≡ sets out (w .at) (encodeWaits (cons? (turnWait v side (waitAtPlace s (w .p)) (waitAtPlace t (w .q))) []))
 
-pub record WaitsReady (A B : Replica) (s : List ℕ) (p m : ℕ) (t : List ℕ) (q k : ℕ) (vs : List ℕ) (n : ℕ) (va vb : List ℕ) : Type 0 where
-  pub left : waitsAt s p m ≡ A .waiting
-  pub right : waitsAt t q k ≡ B .waiting
+pub record WaitsReady (v : Clock) (s : List ℕ) (p m : ℕ) (t : List ℕ) (q k : ℕ) : Type 0 where
   pub left-few : m ≤ 16
   pub right-few : k ≤ 16
   pub left-rise : Ascend waits (waitsAt s p m)
@@ -130,9 +128,7 @@ pub record WaitsReady (A B : Replica) (s : List ℕ) (p m : ℕ) (t : List ℕ) 
   pub right-sound : All Sound (waitsAt t q k)
   pub left-edge : waitsEnd s p m < 65536
   pub right-edge : waitsEnd t q k < 65536
-  pub few : n ≤ 16
-  pub clock : dotsFrom vs va vb 0 n ≡ merged (A .clock) (B .clock)
-  pub clock-ok : Normal clocks (merged (A .clock) (B .clock))
+  pub clock-ok : Normal clocks v
 
 -- waiting removes written from a place on: how many, where they end, and the most members that one names
 pub record WroteWaits (out : List ℕ) (at : ℕ) (ws : List Wait) (out′ : List ℕ) (r : Waits) : Type 0 where

@@ -1,9 +1,9 @@
 // The entries of two images, merged along the actors of the merged clock.
 ghost use mathlib.Core.Path.{_≡_};
 ghost use mathlib.Core.List.{[], _++_};
-ghost use Prim.Native.Nat.{ℕ, _+_, _*_, _<_, _≤_, min};
+ghost use Prim.Native.Nat.{_+_, _*_, _<_, _≤_, min};
 ghost use lib.Dec.{eqb};
-ghost use lib.ListN.{length, getD};
+ghost use lib.ListN.{length, take};
 ghost use lib.Seq.{sets};
 ghost use Rattle.tables.specs.Table.{pick};
 ghost use Rattle.layout.specs.Fields.{u32At, u64At, le32};
@@ -11,7 +11,7 @@ ghost use Rattle.layout.specs.Clock.{dotsAt, encodeDots};
 ghost use Rattle.layout.specs.Rows.{rowsEnd};
 ghost use Rattle.layout.specs.Image.{imageOf};
 ghost use Rattle.merging.specs.Ahead.{keyAhead};
-ghost use Rattle.merging.specs.Entries.{keepOf, keptEntries};
+ghost use Rattle.changing.specs.Kept.{keepOf, keptEntries};
 ghost use Rattle.merging.specs.Keeping.{dotList, KeptDot, KeptDots, linesFrom, keptAlong};
 ghost use Rattle.merging.specs.Rowing.{Ready, MergedRow, WroteRows};
 use crate::ahead::index;
@@ -260,7 +260,7 @@ pub(crate) fn merge_entries(
     at: usize,
 ) -> Rows
     requires { ⌜ Ready (imageOf (now s)) (imageOf (now t)) (now s) p m (now t) q k (now actors) n (now va) (now ka) (now vb) (now kb) × (at < 65536) ⌝ }
-    ensures { λ r. ⌜ WroteRows (now (out .entry)) at (keptEntries (imageOf (now (s .entry))) (imageOf (now (t .entry)))) (now (out .exit)) (r .n) (r .at) ⌝ }
+    ensures { λ r. ⌜ WroteRows (now (out .entry)) at (keptEntries (take n (now (actors .entry))) (imageOf (now (s .entry))) (imageOf (now (t .entry)))) (now (out .exit)) (r .n) (r .at) ⌝ }
 {
     let mut w = Rows {
         p,

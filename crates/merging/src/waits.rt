@@ -1,7 +1,6 @@
-// The waiting removes of two images, joined by equal clock, less those that the merged clock covers.
+// Waiting removes of two sides in bytes, joined by equal clock, less those that a clock covers.
 ghost use mathlib.Core.Path.{_≡_};
-ghost use mathlib.Core.Bool.{Bool};
-ghost use Prim.Native.Nat.{ℕ, _+_, _*_, _<_, _≤_, compare, max, min};
+ghost use Prim.Native.Nat.{_+_, _*_, _<_, _≤_, compare, max, min};
 ghost use lib.Dec.{eqb};
 ghost use Rattle.tables.specs.Order.{lex};
 ghost use Rattle.tables.specs.Table.{pick};
@@ -13,12 +12,10 @@ ghost use Rattle.replica.specs.Replica.{waits};
 ghost use Rattle.layout.specs.Fields.{u32At};
 ghost use Rattle.layout.specs.Clock.{dotAt, dotsAt, clockAt};
 ghost use Rattle.layout.specs.Rows.{membersAt, waitsAt};
-ghost use Rattle.layout.specs.Image.{imageOf};
-ghost use Rattle.merging.specs.Waits.{bothSets, keptWaits};
+ghost use Rattle.changing.specs.KeptWaits.{bothSets, keptWaits};
 ghost use Rattle.merging.specs.Waiting.{orderOf, dotsFrom, Named, MembersReady, WroteMembers, PartAt, PutWait, WaitsAhead, MergedWait, WaitsReady, WroteWaits};
 use crate::ahead::index;
 use crate::ahead::key_at;
-use crate::ahead::larger;
 use crate::ahead::lower;
 use crate::ahead::meets;
 use crate::ahead::wide;
@@ -91,25 +88,17 @@ fn next_wait(s: &[u8], p: usize, m: usize, t: &[u8], q: usize, k: usize) -> usiz
     )
 }
 
-// Whether the merged clock covers the n dots at p: along its k actors, whose counters are the larger of va and vb.
-fn covered(
-    s: &[u8],
-    p: usize,
-    n: usize,
-    actors: &[u32; 16],
-    k: usize,
-    va: &[u64; 16],
-    vb: &[u64; 16],
-) -> bool
+// Whether the clock of k actors and their counters covers the n dots at p: one walk along the actors.
+fn covered(s: &[u8], p: usize, n: usize, actors: &[u32; 16], k: usize, line: &[u64; 16]) -> bool
     requires { ⌜ (p + 12 * n < 1099511627776) × (k ≤ 16) ⌝ }
-    ensures { λ r. ⌜ r ≡ coverOf (dotsFrom (now (actors .entry)) (now (va .entry)) (now (vb .entry)) 0 k) (dotsAt (now (s .entry)) p n) ⌝ }
+    ensures { λ r. ⌜ r ≡ coverOf (dotsFrom (now (actors .entry)) (now (line .entry)) 0 k) (dotsAt (now (s .entry)) p n) ⌝ }
 {
     let mut at = p;
     let mut left = n;
     let mut i: usize = 0;
     while i < k {
         let met = meets(s, at, left, actors[i]);
-        if larger(va[i], vb[i]) < counter_at(s, at, met) {
+        if line[i] < counter_at(s, at, met) {
             return false;
         }
         at += 12 * met;
@@ -201,7 +190,7 @@ pub(crate) struct Put {
     names: usize,
 }
 
-// The waiting remove with the clock at p of c and the members of both parts, written from `at` on; nothing where the merged clock covers it.
+// The waiting remove with the clock at p of c and the members of both parts, written from `at` on; nothing where the clock covers it.
 fn put_wait(
     c: &[u8],
     p: usize,
@@ -211,16 +200,15 @@ fn put_wait(
     y: Part,
     actors: &[u32; 16],
     k: usize,
-    va: &[u64; 16],
-    vb: &[u64; 16],
+    line: &[u64; 16],
     out: &mut [u8],
     at: usize,
 ) -> Put
-    requires { ⌜ (p < 4294967296) × (u32At (now c) p ≤ 16) × (k ≤ 16) × (at < 274877906944) × (x .count + y .count ≤ 64) × MembersReady (now s) (x .names) (x .count) (now t) (y .names) (y .count) ⌝ }
-    ensures { λ r. ⌜ PutWait (coverOf (dotsFrom (now (actors .entry)) (now (va .entry)) (now (vb .entry)) 0 k) (clockAt (now (c .entry)) p)) (clockAt (now (c .entry)) p) (membersAt (now (s .entry)) (x .names) (x .count)) (membersAt (now (t .entry)) (y .names) (y .count)) (x .count + y .count) (now (out .entry)) at (now (out .exit)) r ⌝ }
+    requires { ⌜ (p < 4294967296) × (u32At (now c) p ≤ 16) × (k ≤ 16) × (at < 274877906944) × (x .count + y .count ≤ 1024) × MembersReady (now s) (x .names) (x .count) (now t) (y .names) (y .count) ⌝ }
+    ensures { λ r. ⌜ PutWait (coverOf (dotsFrom (now (actors .entry)) (now (line .entry)) 0 k) (clockAt (now (c .entry)) p)) (clockAt (now (c .entry)) p) (membersAt (now (s .entry)) (x .names) (x .count)) (membersAt (now (t .entry)) (y .names) (y .count)) (x .count + y .count) (now (out .entry)) at (now (out .exit)) r ⌝ }
 {
     let n = index(fields::u32_at(c, p));
-    if covered(c, p + 4, n, actors, k, va, vb) {
+    if covered(c, p + 4, n, actors, k, line) {
         return Put {
             long: 0,
             count: 0,
@@ -274,18 +262,17 @@ fn put_next(
     y: Part,
     actors: &[u32; 16],
     k: usize,
-    va: &[u64; 16],
-    vb: &[u64; 16],
+    line: &[u64; 16],
     out: &mut [u8],
     at: usize,
 ) -> Put
-    requires { ⌜ (p < 4294967296) × (q < 4294967296) × ((side ≡ 2 → ⊥) → u32At (now s) p ≤ 16) × (side ≡ 2 → u32At (now t) q ≤ 16) × (k ≤ 16) × (at < 274877906944) × (x .count + y .count ≤ 64) × MembersReady (now s) (x .names) (x .count) (now t) (y .names) (y .count) ⌝ }
-    ensures { λ r. ⌜ PutWait (coverOf (dotsFrom (now (actors .entry)) (now (va .entry)) (now (vb .entry)) 0 k) (pick (eqb side 2) (clockAt (now (t .entry)) q) (clockAt (now (s .entry)) p))) (pick (eqb side 2) (clockAt (now (t .entry)) q) (clockAt (now (s .entry)) p)) (membersAt (now (s .entry)) (x .names) (x .count)) (membersAt (now (t .entry)) (y .names) (y .count)) (x .count + y .count) (now (out .entry)) at (now (out .exit)) r ⌝ }
+    requires { ⌜ (p < 4294967296) × (q < 4294967296) × ((side ≡ 2 → ⊥) → u32At (now s) p ≤ 16) × (side ≡ 2 → u32At (now t) q ≤ 16) × (k ≤ 16) × (at < 274877906944) × (x .count + y .count ≤ 1024) × MembersReady (now s) (x .names) (x .count) (now t) (y .names) (y .count) ⌝ }
+    ensures { λ r. ⌜ PutWait (coverOf (dotsFrom (now (actors .entry)) (now (line .entry)) 0 k) (pick (eqb side 2) (clockAt (now (t .entry)) q) (clockAt (now (s .entry)) p))) (pick (eqb side 2) (clockAt (now (t .entry)) q) (clockAt (now (s .entry)) p)) (membersAt (now (s .entry)) (x .names) (x .count)) (membersAt (now (t .entry)) (y .names) (y .count)) (x .count + y .count) (now (out .entry)) at (now (out .exit)) r ⌝ }
 {
     if side == 2 {
-        put_wait(t, q, s, x, t, y, actors, k, va, vb, out, at)
+        put_wait(t, q, s, x, t, y, actors, k, line, out, at)
     } else {
-        put_wait(s, p, s, x, t, y, actors, k, va, vb, out, at)
+        put_wait(s, p, s, x, t, y, actors, k, line, out, at)
     }
 }
 
@@ -295,20 +282,19 @@ fn merge_wait(
     t: &[u8],
     actors: &[u32; 16],
     k: usize,
-    va: &[u64; 16],
-    vb: &[u64; 16],
+    line: &[u64; 16],
     out: &mut [u8],
     w: Waits,
 ) -> Waits
     requires { ⌜ WaitsAhead (now s) (now t) w × (k ≤ 16) × (w .at < 274877906944) × (w .n ≤ 64) ⌝ }
-    ensures { λ r. ⌜ MergedWait (dotsFrom (now (actors .entry)) (now (va .entry)) (now (vb .entry)) 0 k) (now (s .entry)) (now (t .entry)) (now (out .entry)) w (now (out .exit)) r ⌝ }
+    ensures { λ r. ⌜ MergedWait (dotsFrom (now (actors .entry)) (now (line .entry)) 0 k) (now (s .entry)) (now (t .entry)) (now (out .entry)) w (now (out .exit)) r ⌝ }
 {
     let side = next_wait(s, w.p, w.m, t, w.q, w.k);
     let i = unless(side, 2);
     let j = unless(side, 0);
     let x = part_at(s, w.p, i);
     let y = part_at(t, w.q, j);
-    let r = put_next(side, s, w.p, x, t, w.q, y, actors, k, va, vb, out, w.at);
+    let r = put_next(side, s, w.p, x, t, w.q, y, actors, k, line, out, w.at);
     Waits {
         p: x.end,
         m: w.m - i,
@@ -330,13 +316,12 @@ pub(crate) fn merge_waits(
     l: usize,
     actors: &[u32; 16],
     k: usize,
-    va: &[u64; 16],
-    vb: &[u64; 16],
+    line: &[u64; 16],
     out: &mut [u8],
     at: usize,
 ) -> Waits
-    requires { ⌜ WaitsReady (imageOf (now s)) (imageOf (now t)) (now s) p m (now t) q l (now actors) k (now va) (now vb) × (at < 4294967296) ⌝ }
-    ensures { λ r. ⌜ WroteWaits (now (out .entry)) at (keptWaits (merged (imageOf (now (s .entry)) .clock) (imageOf (now (t .entry)) .clock)) (imageOf (now (s .entry)) .waiting) (imageOf (now (t .entry)) .waiting)) (now (out .exit)) r ⌝ }
+    requires { ⌜ WaitsReady (dotsFrom (now actors) (now line) 0 k) (now s) p m (now t) q l × (k ≤ 16) × (at < 4294967296) ⌝ }
+    ensures { λ r. ⌜ WroteWaits (now (out .entry)) at (keptWaits (dotsFrom (now (actors .entry)) (now (line .entry)) 0 k) (waitsAt (now (s .entry)) p m) (waitsAt (now (t .entry)) q l)) (now (out .exit)) r ⌝ }
 {
     let mut w = Waits {
         p,
@@ -348,7 +333,7 @@ pub(crate) fn merge_waits(
         most: 0,
     };
     while w.m + w.k > 0 {
-        w = merge_wait(s, t, actors, k, va, vb, out, w);
+        w = merge_wait(s, t, actors, k, line, out, w);
     }
     w
 }

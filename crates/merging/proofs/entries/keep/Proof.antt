@@ -1,5 +1,5 @@
 use borrow.Author.Tests.{eq-eqb, ne-eqb, lt-ltb, le-ltb}
-use Rattle.merging.specs.Entries.{keepOf}
+use Rattle.changing.specs.Kept.{keepOf}
 use Rattle.merging.proofs.entries.keep.Statement.{statement}
 use Rattle.merging.proofs.entries.keep.Tie as tie
 

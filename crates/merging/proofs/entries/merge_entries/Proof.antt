@@ -1,6 +1,7 @@
 use mathlib.Core.Path.{_≡_, refl, sym, ap, _∙_}
 use Prim.Native.Nat.{_+_, _*_, _-_, _≤_, _<_}
 use native.Mathlib.Omega.{arith}
+use lib.ListN.{take}
 use Rattle.layout.specs.Rows.{rowsEnd}
 use Rattle.layout.specs.Image.{imageOf}
 use Rattle.merging.proofs.RowLoop.{Rowing, rows-begin, rows-again, rows-end}
@@ -9,7 +10,7 @@ use Rattle.merging.proofs.entries.merge_entries.Statement.{statement}
 use Rattle.merging.proofs.entries.merge_entries.Tie as tie
 
 abbrev Inv-loop : tie.InvT-loop
-Inv-loop s p m t q k actors n va ka vb kb out₀ at w₀ out w = Rowing (imageOf s) (imageOf t) s t m k at (rowsEnd s p m) (rowsEnd t q k) out₀ out w
+Inv-loop s p m t q k actors n va ka vb kb out₀ at w₀ out w = Rowing (take n actors) (imageOf s) (imageOf t) s t m k at (rowsEnd s p m) (rowsEnd t q k) out₀ out w
 
 abbrev μ-loop : tie.MeasureT-loop
 μ-loop s p m t q k actors n va ka vb kb out₀ at w₀ out w = w .m + w .k

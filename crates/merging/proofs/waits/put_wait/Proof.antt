@@ -26,17 +26,17 @@ unite-requires c κs = let h = c .before .before .before .before .before .before
 cast-put-u32 : tie.Need-cast-put-u32
 cast-put-u32 c = let h = c .before .before .before .before .before .before .before .before .before .before .before .before .before .before .before .before .before .before .pre .4 in let f = c .before .before .before .unite .ensures .few in omega arith
 
-sub-t18 : tie.Need-sub-t18
-sub-t18 c = omega arith
+sub-t17 : tie.Need-sub-t17
+sub-t17 c = omega arith
 
-add-t27 : tie.Need-add-t27
-add-t27 c = let h = c .before .before .before .before .before .before .before .before .before .before .before .before .before .before .before .before .before .before .before .before .before .pre in let r = put-short _ _ _ _ (h .1) (c .before .before .before .before .before .before .before .before .before .before .before .clock-at .ensures) (c .before .before .before .before .before .before .before .before .before .before .put-clock .ensures .long) in omega arith
+add-t26 : tie.Need-add-t26
+add-t26 c = let h = c .before .before .before .before .before .before .before .before .before .before .before .before .before .before .before .before .before .before .before .before .before .pre in let r = put-short _ _ _ _ (h .1) (c .before .before .before .before .before .before .before .before .before .before .before .clock-at .ensures) (c .before .before .before .before .before .before .before .before .before .before .put-clock .ensures .long) in omega arith
 
-mul-t28 : tie.Need-mul-t28
-mul-t28 c = let h = c .before .before .before .before .before .before .before .before .before .before .before .before .before .before .before .before .before .before .before .before .before .pre .4 in let f = c .before .before .before .before .before .before .unite .ensures .few in omega arith
+mul-t27 : tie.Need-mul-t27
+mul-t27 c = let h = c .before .before .before .before .before .before .before .before .before .before .before .before .before .before .before .before .before .before .before .before .before .pre .4 in let f = c .before .before .before .before .before .before .unite .ensures .few in omega arith
 
-add-t29 : tie.Need-add-t29
-add-t29 c = let h = c .before .before .before .before .before .before .before .before .before .before .before .before .before .before .before .before .before .before .before .before .before .pre in let r = put-short _ _ _ _ (h .1) (c .before .before .before .before .before .before .before .before .before .before .before .clock-at .ensures) (c .before .before .before .before .before .before .before .before .before .before .put-clock .ensures .long) in let f = c .before .before .before .before .before .before .unite .ensures .few in omega arith
+add-t28 : tie.Need-add-t28
+add-t28 c = let h = c .before .before .before .before .before .before .before .before .before .before .before .before .before .before .before .before .before .before .before .before .before .pre in let r = put-short _ _ _ _ (h .1) (c .before .before .before .before .before .before .before .before .before .before .before .clock-at .ensures) (c .before .before .before .before .before .before .before .before .before .before .put-clock .ensures .long) in let f = c .before .before .before .before .before .before .unite .ensures .few in omega arith
 
 same-length : tie.Need-same-length
 same-length c = ap length (c .before .before .put-u32 .ensures) ∙ simp length-sets (ap length (c .before .before .before .before .before .before .unite .ensures .bytes) ∙ simp length-sets (ap length (c .before .before .before .before .before .before .before .before .before .before .put-clock .ensures .is) ∙ simp length-sets))
@@ -51,4 +51,4 @@ put-wait-spec =
     tie.close
     (tie.spec (λ c κs. search needs) (λ c κs. search needs) (λ c. search needs) covered-requires returns
     (λ c κs. search needs) (λ c κs. search needs) add-e add-unite unite-requires cast-put-u32 (λ c κs. search needs)
-    sub-t18 add-t27 mul-t28 add-t29 same-length returns-2)
+    sub-t17 add-t26 mul-t27 add-t28 same-length returns-2)

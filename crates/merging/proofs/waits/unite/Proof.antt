@@ -1,7 +1,7 @@
 use Prim.Native.Nat.{_+_, _*_, _≤_, _<_}
 use native.Mathlib.Omega.{arith}
 use Rattle.layout.specs.Rows.{membersAt}
-use Rattle.merging.specs.Waits.{bothSets}
+use Rattle.changing.specs.KeptWaits.{bothSets}
 use Rattle.merging.specs.Waiting.{MembersReady}
 use Rattle.merging.proofs.NameSteps.{Naming, names-begin, names-again, names-end}
 use borrow.Author.Needs.{needs}

@@ -1,18 +1,18 @@
--- What merging two replicas leaves of their entries: along the merged clock's actors, what each side has for an actor and which of it stays.
+-- What stays of the entries of two replicas: along some actors, what each side has for an actor and which of it stays. A merge goes along the
+-- merged clock's actors.
 use Prim.Native.Nat.{ℕ, zero, suc, _≤_, _<_, max, compare}
-use mathlib.Core.Path.{_≡_, refl, sym, ap, ap₂, _∙_, subst}
+use mathlib.Core.Path.{_≡_, refl, sym, ap, _∙_}
 use mathlib.Core.Logic.{_⊎_, inl, inr}
-use mathlib.Core.Bool.{Bool, true, false, not, _&&_, _||_, or-true, false≢true}
+use mathlib.Core.Bool.{Bool, true, false, not, or-true, false≢true}
 use mathlib.Core.Option.{Option, none, some}
-use mathlib.Core.List.{List, [], _∷_, map}
+use mathlib.Core.List.{List, map}
 use native.Mathlib.Omega.{arith}
-use lib.Dec.{eqb, ltb, leb, T}
-use lib.ListN.{length}
-use borrow.Author.Tests.{eq-eqb, ne-eqb, eqb-true, eqb-false, lt-ltb, le-ltb, le-leb, lt-leb, ltb-true, ltb-false}
+use lib.Dec.{eqb, ltb, leb}
+use borrow.Author.Tests.{eq-eqb, ne-eqb, eqb-true, eqb-false, le-leb, lt-leb, ltb-true, ltb-false}
 use Rattle.tables.specs.Order.{nat-order}
-use Rattle.tables.specs.Table.{get, join, Normal, Proper, has, find, find-has, find-all, isSome, pick, pick-all, normal-join, get-join}
+use Rattle.tables.specs.Table.{join, Normal, Proper, has, find, find-has, find-all, isSome, pick, pick-all, normal-join, get-join}
 use Rattle.tables.specs.Zip.{zip, by-lt}
-use Rattle.tables.specs.Walk.{Sub, walked, walked-join, length-walked}
+use Rattle.tables.specs.Walk.{Sub, walked, walked-join}
 use Rattle.dots.specs.declared.Dot.{Dot}
 use Rattle.dots.specs.Dot.{dots, clocks, dot?, counterOf, actorOf}
 use Rattle.dots.specs.Clock.{Clock, count, merged}
@@ -32,12 +32,12 @@ lineOf A m a = max (count (A .clock) a) (killsOf (A .waiting) m a)
 unfoldable pub keepOf : ℕ → ℕ → ℕ → ℕ → ℕ
 keepOf la lb u w = pick (eqb u w) u (pick (ltb lb u) u (pick (ltb la w) w 0))
 
--- the entry of a member, along the actors of v
-unfoldable pub keptClock : Clock → Replica → Replica → ℕ → Clock → Clock → Clock
-keptClock v A B m x y = walked dots (λ a. keepOf (lineOf A m a) (lineOf B m a)) (map actorOf v) x y
+-- the entry of a member, along the actors
+unfoldable pub keptClock : List ℕ → Replica → Replica → ℕ → Clock → Clock → Clock
+keptClock vs A B m x y = walked dots (λ a. keepOf (lineOf A m a) (lineOf B m a)) vs x y
 
-unfoldable pub keptEntries : Replica → Replica → List Entry
-keptEntries A B = zip entries (keptClock (merged (A .clock) (B .clock)) A B) (A .entries) (B .entries)
+unfoldable pub keptEntries : List ℕ → Replica → Replica → List Entry
+keptEntries vs A B = zip entries (keptClock vs A B) (A .entries) (B .entries)
 
 -- ---- one counter: u is the entry's, v the clock's, k the kill number; K says whether a dot is killed
 
@@ -166,7 +166,7 @@ module _ (A B : Replica) (h : Fine A) (g : Fine B) where
   unfolding keepOf
   keep-zero la lb = refl
 
-  kept-is : (m : ℕ) → keptClock both A B m (entry A m) (entry B m) ≡ join clocks (liveAt A B m) (entry A m) (entry B m)
+  kept-is : (m : ℕ) → keptClock (map actorOf both) A B m (entry A m) (entry B m) ≡ join clocks (liveAt A B m) (entry A m) (entry B m)
   unfolding keptClock
   kept-is m =
       walked-join dots (λ a. keepOf (lineOf A m a) (lineOf B m a)) both (entry A m) (entry B m) both-normal (g .each m) (h .each m .asc)
@@ -179,11 +179,6 @@ module _ (A B : Replica) (h : Fine A) (g : Fine B) where
       ∙ (λ i. join clocks (λ a. keep-live A B h g m a i) (entry A m) (entry B m))
 
   -- the entries of the merge
-  pub entries-kept : (merge A B) .entries ≡ keptEntries A B
+  pub entries-kept : (merge A B) .entries ≡ keptEntries (map actorOf (merged (A .clock) (B .clock))) A B
   unfolding keptEntries zip byDots
   entries-kept = ap (λ (R : Replica). R .entries) (literal A B h g) ∙ sym (λ i. join entries (λ m. kept-is m i) (A .entries) (B .entries))
-
--- "at most V's length"
-pub length-kept : (v : Clock) (A B : Replica) (m : ℕ) (x y : Clock) → length (keptClock v A B m x y) ≤ length (map actorOf v)
-unfolding keptClock
-length-kept v A B m x y = length-walked dots (λ a. keepOf (lineOf A m a) (lineOf B m a)) (map actorOf v) x y

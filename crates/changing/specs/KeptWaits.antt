@@ -1,11 +1,11 @@
 -- What merging two replicas leaves of their waiting removes: joined by equal clock, less those that the merged clock covers; one by one in the
 -- order of clocks.
-use Prim.Native.Nat.{ℕ, compare, Ordering, Ordering·lt, Ordering·eq, Ordering·gt}
-use mathlib.Core.Path.{_≡_, refl, sym, ap, ap₂, _∙_}
+use Prim.Native.Nat.{ℕ, Ordering, Ordering·lt, Ordering·eq, Ordering·gt}
+use mathlib.Core.Path.{_≡_, refl, sym, ap, _∙_}
 use mathlib.Core.Bool.{Bool, true, false, _||_, or-false}
 use mathlib.Core.Option.{Option, none, some}
-use mathlib.Core.List.{List, [], _∷_, map}
-use Rattle.tables.specs.Table.{get, join, Normal, All, pick, cons?, ext, normal-join, get-join}
+use mathlib.Core.List.{List, [], _∷_}
+use Rattle.tables.specs.Table.{get, Normal, All, pick, cons?, ext, normal-join, get-join}
 use Rattle.tables.specs.Zip.{zip, turnOf, left-after, right-after, turn-row, Ascend, zip-turn}
 use Rattle.dots.specs.Clock.{Clock, covers, merged, cmpClock}
 use Rattle.replica.specs.Replica.{Wait, Replica, waits, memberSets, wait?}
