@@ -4,4 +4,3 @@ pub mod Rowing
 pub mod Waiting
 pub mod Draft
 pub mod Merge
-pub mod Laws
