@@ -1,0 +1,72 @@
+-- Every length and count fits the lower half.
+use Prim.Native.Nat.{ℕ, _+_, _*_, _≤_, _<_, min}
+use mathlib.Core.Path.{_≡_, refl, sym, ap, _∙_}
+use mathlib.Core.Bool.{Bool, true, false}
+use mathlib.Core.List.{List, [], _∷_}
+use native.Mathlib.Omega.{arith}
+use lib.Dec.{T, eqb}
+use lib.ListN.{length, length-map, length-take}
+use borrow.Author.Tests.{eqb-true}
+use Rattle.tables.specs.Table.{pick}
+use Rattle.tables.specs.Refusal.{NoneApplies, firstOf}
+use Rattle.tables.specs.Ascending.{before, ascending}
+use Rattle.clocks.specs.declared.VClock.{VClock}
+use Rattle.clocks.specs.VClock.{dotsOf}
+use Rattle.replica.specs.Limits.{full, Within, unbroken-right, well-formed-from}
+use Rattle.replica.specs.Reads.{read}
+use Rattle.layout.specs.Clock.{encodeClock}
+use Rattle.layout.specs.Image.{encode, imageOf, goodImage}
+use Rattle.layout.specs.Kit.{length-encodeClock}
+use Rattle.layout.specs.Main.{good-formed, empty-length}
+use Rattle.results.specs.declared.Written.{Written}
+use Rattle.results.specs.Call.{Call, numberOf, answered, answerOf, Meets}
+use Rattle.results.specs.Laws.{Orderly, done-exactly}
+use Rattle.reading.specs.declared.MembersAnswer.{MembersAnswer}
+use Rattle.reading.specs.Calls.{emptyCall, membersRead, readNumber, membersAnswer, readCall, ReadMeets}
+
+-- a clock takes at most 196 bytes
+pub clock-bytes : (c : VClock) → length (c .dots) ≡ 16 → length (encodeClock (dotsOf c)) ≡ 4 + 12 * min (c .len) 16
+clock-bytes c long = length-encodeClock (dotsOf c) ∙ simp (length-take, long)
+
+-- a replica that a call writes is as long as its image
+module _ (c : Call) (orderly : Orderly c) (most : NoneApplies (c .refusals) → Within full (c .result) → length (encode (c .result)) ≤ 18268) where
+  pub short : (before after : List ℕ) (w : Written) → Meets full c before w after → w .len ≤ 18268
+  unfolding answerOf answered
+  short before after w m = go (eqb (numberOf full c (length before)) 0) refl
+    where
+      len-is : w .len ≡ pick (eqb (numberOf full c (length before)) 0) (length (encode (c .result))) 0
+      len-is = ap (λ (x : Written). x .len) (m .answer)
+
+      go : (b : Bool) → eqb (numberOf full c (length before)) 0 ≡ b → w .len ≤ 18268
+      go true e =
+          let n : w .no ≡ 0 = ap (λ (x : Written). x .no) (m .answer) ∙ eqb-true (numberOf full c (length before)) 0 e in
+          let d = (done-exactly full c before w after m orderly) .0 n in
+          let h = most (d .0) (d .1) in
+          let l : w .len ≡ length (encode (c .result)) = len-is ∙ rw e in
+          omega arith
+      go false e = let l : w .len ≡ 0 = len-is ∙ rw e in omega arith
+
+pub empty-short : (before after : List ℕ) (w : Written) → Meets full emptyCall before w after → w .len ≤ 18268
+unfolding ascending before
+empty-short = short emptyCall tt (λ n h. let e = empty-length in omega arith)
+
+-- at most 64 members are read
+pub few-members : (s : List ℕ) → goodImage s ≡ true → length (membersRead s) ≤ 64
+unfolding read
+few-members s g =
+    let f = well-formed-from full (imageOf s) (good-formed s (rw g tt)) in
+    let w = (unbroken-right full (imageOf s)) .0 (f .1) in
+    rw length-map (w .members-fit)
+
+-- a count is that of the members, or 0
+counted : (b : Bool) {n m : ℕ} → n ≡ pick b m 0 → m ≤ 64 → n ≤ 64
+counted true e h = omega arith
+counted false e h = omega arith
+
+pub read-short : (s out after : List ℕ) (x : MembersAnswer) → ReadMeets s out x after → x .count ≤ 64
+unfolding readCall membersAnswer readNumber firstOf
+read-short s out after x m = go (goodImage s) refl (ap (λ (y : MembersAnswer). y .count) (m .answer))
+  where
+    go : (b : Bool) → goodImage s ≡ b → x .count ≡ pick (eqb (readNumber s (length out)) 0) (length (membersRead s)) 0 → x .count ≤ 64
+    go true g e = counted (eqb (readNumber s (length out)) 0) e (few-members s g)
+    go false g e = let z : x .count ≡ 0 = e ∙ rw g in omega arith

@@ -1,0 +1,16 @@
+use native.Mathlib.Omega.{arith}
+use Rattle.exports.proofs.Replied.{read-replies}
+use Rattle.exports.proofs.Short.{read-short}
+use borrow.Author.Needs.{needs}
+use Rattle.exports.proofs.reads.gatelichen_read.Statement.{statement}
+use Rattle.exports.proofs.reads.gatelichen_read.Tie as tie
+
+packed-requires : tie.Need-packed-requires
+packed-requires c κs = omega (arith, read-short _ _ _ _ (c .before .before .read .ensures))
+
+returns : tie.Need-returns
+returns c = read-replies _ _ _ _ _ (c .before .before .before .read .ensures) (c .packed .ensures)
+
+pub gatelichen-read-spec : {M : Type 1} → statement M
+gatelichen-read-spec = tie.close
+    (tie.spec (λ c κs. search needs) packed-requires (λ c. search needs) returns)

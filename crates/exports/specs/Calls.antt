@@ -1,0 +1,58 @@
+-- The calls of include/gatelichen.h, each as the reply to what it is lent; `room` is the length of `out`.
+use Prim.Native.Nat.{ℕ}
+use mathlib.Core.Option.{Option, none, some}
+use mathlib.Core.List.{List, [], _++_}
+use lib.ListN.{length}
+use Rattle.tables.specs.Table.{pick}
+use Rattle.clocks.specs.VClock.{dotsOf}
+use Rattle.replica.specs.Limits.{full}
+use Rattle.replica.specs.Validate.{Spent}
+use Rattle.layout.specs.Fields.{le32}
+use Rattle.layout.specs.Clock.{encodeDot, encodeClock}
+use Rattle.layout.specs.Rows.{encodeMembers}
+use Rattle.layout.specs.Image.{encode}
+use Rattle.image.specs.Image.{checkCall, clockCall}
+use Rattle.results.specs.Call.{Call, numberOf}
+use Rattle.reading.specs.Calls.{containsCall, membersRead, readNumber}
+use Rattle.validating.specs.declared.Spent.{Spent as SpentDot}
+use Rattle.validating.specs.Calls.{Validated, validateMergeCall}
+use Rattle.exports.specs.Reply.{Reply, reply, fitted, ifRoom}
+
+-- "Whether the bytes are a well-formed image of a replica."
+unfoldable pub checkReply : List ℕ → Reply
+checkReply s = reply (checkCall s) 0 []
+
+-- "Writes the new image. Length: of the image."
+unfoldable pub replicaReply : Call → ℕ → Reply
+replicaReply c room = reply (numberOf full c room) (length (encode (c .result))) (encode (c .result))
+
+-- "Whether the member is there: the lower half is 1 or 0. Writes the member's clock, by which it can be removed; the empty clock (4 zero bytes) where it
+-- isn't there."
+unfoldable pub containsReply : List ℕ → ℕ → ℕ → Reply
+containsReply s m room = let x = containsCall s m in fitted room (x .no) (pick (x .ctx .answer) 1 0) (encodeClock (dotsOf (x .ctx .«rm_clock»)))
+
+-- "Writes the members ascending, 32-bit little-endian numbers. The lower half is how many they are, not bytes."
+unfoldable pub readReply : List ℕ → ℕ → Reply
+readReply s room = reply (readNumber s room) (length (membersRead s)) (encodeMembers (membersRead s))
+
+-- "Writes the replica's clock. Length: of the clock in bytes."
+unfoldable pub clockReply : List ℕ → ℕ → Reply
+clockReply s room = let x = clockCall s in fitted room (x .no) (length (encodeClock (dotsOf (x .clock)))) (encodeClock (dotsOf (x .clock)))
+
+-- "actor, counter (64 bits), a's member, b's member; little-endian"
+unfoldable pub spentBytes : Spent → List ℕ
+spentBytes x = encodeDot (x .dot) ++ (le32 (x .our) ++ le32 (x .their))
+
+abbrev pub spentOf : SpentDot → Spent
+spentOf x = record { dot = x .dot; our = x .our .0; their = x .their .0 }
+
+unfoldable pub namedSpent : Option Spent → List ℕ
+namedSpent none = []
+namedSpent (some x) = spentBytes x
+
+-- "Whether a dot is held for one member by a and for another by b. .. At 12 it writes the first such .. where 20 bytes fit"
+unfoldable pub spentReply : Validated → ℕ → Reply
+spentReply v room = record { number = v .number; low = 0; bytes = ifRoom room (namedSpent (v .spent)) }
+
+unfoldable pub validateMergeReply : List ℕ → List ℕ → ℕ → Reply
+validateMergeReply a b room = spentReply (validateMergeCall a b) room
