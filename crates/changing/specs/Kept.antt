@@ -10,12 +10,13 @@ use native.Mathlib.Omega.{arith}
 use lib.Dec.{eqb, ltb, leb}
 use borrow.Author.Tests.{eq-eqb, ne-eqb, eqb-true, eqb-false, le-leb, lt-leb, ltb-true, ltb-false}
 use Rattle.tables.specs.Order.{nat-order}
-use Rattle.tables.specs.Table.{join, Normal, Proper, has, find, find-has, find-all, isSome, pick, pick-all, normal-join, get-join}
+use Rattle.tables.specs.Table.{join, Normal, Proper, has, find, find-has, find-all, isSome, pick, pick-all}
 use Rattle.tables.specs.Zip.{zip, by-lt}
 use Rattle.tables.specs.Walk.{Sub, walked, walked-join}
 use Rattle.dots.specs.declared.Dot.{Dot}
 use Rattle.dots.specs.Dot.{dots, clocks, dot?, counterOf, actorOf}
 use Rattle.dots.specs.Clock.{Clock, count, merged}
+use Rattle.dots.specs.ClockLaws.{merged-count, merged-normal}
 use Rattle.replica.specs.OneDot.{lives}
 use Rattle.replica.specs.Replica.{Entry, Replica, entries, entry, holds, seen, killed}
 use Rattle.replica.specs.Rules.{stay, merge}
@@ -111,7 +112,7 @@ module _ (u w va vb ka kb : ℕ) (KA KB : ℕ → Bool) (p : Side u va ka KA) (q
 
 -- ---- of two well-formed replicas
 
-side : (A : Replica) → Fine A → (m a : ℕ) → Side (count (entry A m) a) (count (A .clock) a) (killsOf (A .waiting) m a) (killed A m a)
+pub side : (A : Replica) → Fine A → (m a : ℕ) → Side (count (entry A m) a) (count (A .clock) a) (killsOf (A .waiting) m a) (killed A m a)
 unfolding holds
 side A h m a = record {
   within = h .within m a;
@@ -147,35 +148,36 @@ count-has c k h = go (find compare actorOf k c) refl
     go none e = absurd (h (ap counterOf e))
     go (some d) e = sym (find-has compare nat-order actorOf k c) ∙ ap isSome e
 
+keep-zero : (la lb : ℕ) → keepOf la lb 0 0 ≡ 0
+unfolding keepOf
+keep-zero la lb = refl
+
+-- where the actors of v have all that two clocks count, what stays along them is said counter by counter
+abbrev pub Along : Clock → Clock → Type 0
+Along v x = (a : ℕ) → count v a ≡ 0 → count x a ≡ 0
+
+along-sub : (v x : Clock) → Normal clocks x → Along v x → Sub dots (map actorOf v) x
+along-sub v x n h = λ a t. count-has v a (λ z. has-count x a n t (h a z))
+
+pub kept-join : (v : Clock) (A B : Replica) (m : ℕ) (x y : Clock) → Normal clocks v → Normal clocks x → Normal clocks y → Along v x → Along v y
+    → keptClock (map actorOf v) A B m x y ≡ join clocks (λ a. keepOf (lineOf A m a) (lineOf B m a) (count x a) (count y a)) x y
+unfolding keptClock
+kept-join v A B m x y nv nx ny ax ay =
+    walked-join dots (λ a. keepOf (lineOf A m a) (lineOf B m a)) v x y nv ny (nx .asc) (along-sub v x nx ax) (along-sub v y ny ay)
+    (λ a z. rw (ax a z, ay a z) (keep-zero (lineOf A m a) (lineOf B m a)))
+    (λ a p q. rw (p, q) (keep-zero (lineOf A m a) (lineOf B m a)))
+
 module _ (A B : Replica) (h : Fine A) (g : Fine B) where
   abbrev both : Clock
   both = merged (A .clock) (B .clock)
 
-  both-normal : Normal clocks both
-  unfolding merged zip
-  both-normal = normal-join clocks (λ k. max (count (A .clock) k) (count (B .clock) k)) (A .clock) (B .clock) (g .clock-ok)
-
-  both-count : (k : ℕ) → count both k ≡ max (count (A .clock) k) (count (B .clock) k)
-  unfolding merged zip
-  both-count k = get-join clocks (λ j. max (count (A .clock) j) (count (B .clock) j)) (A .clock) (B .clock) (λ j p q. rw (p, q)) k
-
-  within-sub : (x : Clock) → Normal clocks x → ((k : ℕ) → count x k ≤ max (count (A .clock) k) (count (B .clock) k)) → Sub dots (map actorOf both) x
-  within-sub x n l = λ k t. count-has both k (λ z. let p = has-count x k n t in let q = l k in let r = both-count k in by-lt 0 (count x k) (λ l. omega arith) (λ l. p (omega arith)))
-
-  keep-zero : (la lb : ℕ) → keepOf la lb 0 0 ≡ 0
-  unfolding keepOf
-  keep-zero la lb = refl
+  both-along : (x : Clock) → ((a : ℕ) → count x a ≤ max (count (A .clock) a) (count (B .clock) a)) → Along both x
+  both-along x l a z = let p = l a in let r = merged-count (A .clock) (B .clock) a in omega arith
 
   kept-is : (m : ℕ) → keptClock (map actorOf both) A B m (entry A m) (entry B m) ≡ join clocks (liveAt A B m) (entry A m) (entry B m)
-  unfolding keptClock
   kept-is m =
-      walked-join dots (λ a. keepOf (lineOf A m a) (lineOf B m a)) both (entry A m) (entry B m) both-normal (g .each m) (h .each m .asc)
-      (within-sub (entry A m) (h .each m) (λ k. let p = h .within m k in omega arith)) (within-sub (entry B m) (g .each m) (λ k. let p = g .within m k in omega arith))
-      (λ k z.
-      let r = both-count k in let p = h .within m k in let q = g .within m k in
-      let ex : count (entry A m) k ≡ 0 = omega arith in let ey : count (entry B m) k ≡ 0 = omega arith in
-      rw (ex, ey) (keep-zero (lineOf A m k) (lineOf B m k)))
-      (λ k ex ey. rw (ex, ey) (keep-zero (lineOf A m k) (lineOf B m k)))
+      kept-join both A B m (entry A m) (entry B m) (merged-normal (A .clock) (B .clock) (g .clock-ok)) (h .each m) (g .each m)
+      (both-along (entry A m) (λ a. let p = h .within m a in omega arith)) (both-along (entry B m) (λ a. let p = g .within m a in omega arith))
       ∙ (λ i. join clocks (λ a. keep-live A B h g m a i) (entry A m) (entry B m))
 
   -- the entries of the merge

@@ -1,4 +1,4 @@
 pub mod Kept
+pub mod Brought
 pub mod KeptWaits
-pub mod Entries
 pub mod Waits

@@ -2,7 +2,7 @@
 use Prim.Native.Nat.{ℕ}
 use mathlib.Core.Path.{_≡_, refl, sym, ap, _∙_, subst}
 use mathlib.Core.Logic.{_≢_}
-use mathlib.Core.Bool.{false, false≢true}
+use mathlib.Core.Bool.{Bool, true, false, false≢true}
 use mathlib.Core.Option.{Option, none, some}
 use mathlib.Core.List.{List, [], _∷_}
 use native.Mathlib.Omega.{arith}
@@ -11,12 +11,14 @@ use borrow.Author.Tests.{lt-leb}
 use Rattle.tables.specs.Table.{Normal, All, get, pick, pick-both, isSome, rowAt, key-at, by-row, all-at, ext}
 use Rattle.tables.specs.Zip.{get-zip, normal-zip}
 use Rattle.dots.specs.Dot.{clocks}
-use Rattle.dots.specs.Clock.{Clock, covers, filled, resetBy}
-use Rattle.dots.specs.ClockLaws.{dot-proper, normal-empty, reset-normal}
+use Rattle.dots.specs.declared.Dot.{Dot}
+use Rattle.dots.specs.Clock.{Clock, normal, covers, filled, applied, resetBy}
+use Rattle.dots.specs.ClockLaws.{dot-proper, normal-empty, normal-from, reset-normal}
 use Rattle.replica.specs.Replica.{Wait, Replica, waits, holds}
-use Rattle.replica.specs.Rules.{unite, joinWaits, uncovered, remove, rewait, resetWaits, reset}
-use Rattle.replica.specs.WellFormed.{Fine, sound-fine, fine-sound}
-use Rattle.replica.specs.Waits.{GoodWait, Each, unite-none, unite-good, joined-get, joined-normal}
+use Rattle.replica.specs.Rules.{setOf, unite, joinWaits, uncovered, settle, add, remove, rewait, resetWaits, reset}
+use Rattle.replica.specs.WellFormed.{Fine, sound, sound-fine, fine-sound}
+use Rattle.replica.specs.Waits.{GoodWait, Each, unite-none, unite-good, one-normal, joined-get, joined-normal}
+use Rattle.replica.specs.Listed.{set-normal}
 use Rattle.replica.specs.Settle.{late-normal, late-get}
 use Rattle.replica.specs.ResetLaws.{was-reset}
 use Rattle.changing.specs.KeptWaits.{keptWaits}
@@ -42,6 +44,10 @@ pub uncovered-is : (v : Clock) (ws : List Wait) → Normal waits ws → uncovere
 uncovered-is v ws h = ext waits (uncovered v ws) (keptWaits v ws []) (late-normal v ws h) (kept-normal v ws [] none-normal)
     (λ c. late-get v ws h c ∙ sym (kept-get v ws [] c ∙ ap (pick (covers v c) none) (unite-none (get waits ws c))))
 
+pub add-waits : (d : Dot) (ms : List ℕ) (A : Replica) → T (sound A) → covers (A .clock) (d ∷ []) ≡ false → (add d ms A) .waiting ≡ keptWaits (applied (A .clock) d) (A .waiting) []
+unfolding add settle
+add-waits d ms A s new = rw new (uncovered-is (applied (A .clock) d) (A .waiting) ((sound-fine A s) .waiting-ok))
+
 -- ---- two lists joined: the empty clock covers none that waits
 
 abbrev pub Good : Wait → Type 0
@@ -52,6 +58,10 @@ good-at ws h k = by-row waits (Each (GoodWait k)) ws k (λ ms q. absurd (false�
   where
     there : (w : Wait) → rowAt waits ws k ≡ some w → Each (GoodWait k) (some (w .members))
     there w p ms q = let y : w .members ≡ ms = cc in rw (key-at waits ws k w p, ← y) (all-at waits Good ws h k w p)
+
+covers-empty : (v k : Clock) → k ≡ [] → covers v k ≡ true
+unfolding covers
+covers-empty v k z = rw z
 
 uncovers : (k : Clock) → Normal clocks k → k ≢ [] → covers [] k ≡ false
 unfolding covers
@@ -68,6 +78,26 @@ joined-each xs ys n f g = ext waits (joinWaits xs ys) (keptWaits [] xs ys) (join
 
 pub joined-is : (xs ys : List Wait) → Normal waits ys → All Good xs → All Good ys → joinWaits xs ys ≡ keptWaits [] xs ys
 joined-is xs ys n f g = joined-each xs ys n (good-at xs f) (good-at ys g)
+
+-- ---- remove: "If V doesn't cover c, the remove waits, joined to one with an equal clock. .. Other waiting removes aren't looked at."
+
+joined-none : (ws : List Wait) → Normal waits ws → joinWaits ws [] ≡ ws
+joined-none ws n = ext waits (joinWaits ws []) ws (joined-normal ws [] none-normal) n (λ k. joined-get ws [] k ∙ unite-none (get waits ws k))
+
+pub remove-waits : (c : Clock) (ms : List ℕ) (A : Replica) → T (normal c) → T (sound A) → (b : Bool) → covers (A .clock) c ≡ b
+    → (remove c ms A) .waiting ≡ keptWaits [] (A .waiting) (pick b [] (record { clock = c; members = setOf ms } ∷ []))
+unfolding remove
+remove-waits c ms A nc s true e = rw e (sym (joined-none (A .waiting) (h .waiting-ok)) ∙ joined-each (A .waiting) [] none-normal (h .late) (good-at [] tt))
+  where
+    h : Fine A
+    h = sound-fine A s
+remove-waits c ms A nc s false e = rw e (joined-each (A .waiting) (w ∷ []) (one-normal w) ((sound-fine A s) .late) (good-at (w ∷ []) ((normal-from c nc, filled, set-normal ms), tt)))
+  where
+    w : Wait
+    w = record { clock = c; members = setOf ms }
+
+    filled : c ≢ []
+    filled z = false≢true (sym e ∙ covers-empty (A .clock) c z)
 
 -- ---- reset: one after the other from the last on, each joined to those after it unless its clock went empty
 
