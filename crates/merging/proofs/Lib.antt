@@ -7,4 +7,5 @@ pub mod NameSteps
 pub mod WaitSteps
 pub mod WaitLoop
 pub mod DraftSteps
+pub mod Sides
 pub mod Link

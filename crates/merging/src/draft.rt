@@ -1,15 +1,29 @@
-// The result of a merge, as a draft: its entries and waiting removes where they stand in the image.
+// A result as a draft: the entries and waiting removes that stay of two sides, where they stand in the result's image.
 ghost use mathlib.Core.Path.{_≡_};
 ghost use mathlib.Core.List.{map};
 ghost use Prim.Native.Nat.{_+_, _*_, _<_, _≤_};
 ghost use lib.Dec.{ltb};
 ghost use lib.ListN.{take};
-ghost use Rattle.dots.specs.Dot.{actorOf};
+ghost use Rattle.tables.specs.Zip.{Rise};
+ghost use Rattle.dots.specs.Dot.{dots, actorOf};
 ghost use Rattle.dots.specs.Clock.{count};
 ghost use Rattle.clocks.specs.VClock.{dotsOf};
 ghost use Rattle.layout.specs.Clock.{dotsAt};
-ghost use Rattle.merging.specs.Draft.{Counts};
+ghost use Rattle.layout.specs.Rows.{waitsAt};
+ghost use Rattle.layout.specs.Image.{imageOf, waitsStart};
+ghost use Rattle.changing.specs.Kept.{keptEntries};
+ghost use Rattle.changing.specs.KeptWaits.{keptWaits};
+ghost use Rattle.merging.specs.Rowing.{WroteRows};
+ghost use Rattle.merging.specs.Waiting.{WaitsReady, WroteWaits};
+ghost use Rattle.merging.specs.Draft.{Counts, Held, DraftOf};
+use crate::ahead::index;
+use crate::entries::Rows;
+use crate::entries::merge_entries;
+use crate::waits::Waits;
+use crate::waits::merge_waits;
 use clocks::VClock;
+use image::Image;
+use results::Draft;
 
 // The counter of an actor in the clock of n dots at p; 0 where it has none.
 fn count_of(s: &[u8], p: usize, n: usize, actor: u32) -> u64
@@ -56,9 +70,127 @@ fn actors_of(v: VClock) -> [u32; 16]
     actors
 }
 
+// The counters of a clock.
+fn counters_of(v: VClock) -> [u64; 16]
+    requires { ⌜ v .len ≤ 16 ⌝ }
+    ensures { λ r. ⌜ take (v .len) r ≡ map (λ d. d .counter) (dotsOf v) ⌝ }
+{
+    let n = v.len;
+    let mut counters = [0u64; 16];
+    let mut i: usize = 0;
+    while i < n {
+        let d = v.dots[i];
+        counters[i] = d.counter;
+        i += 1;
+    }
+    counters
+}
+
 // A count for the draft: itself, or 33 where it is more.
 fn capped(most: usize) -> u32
     ensures { λ r. ⌜ ltb 32 r ≡ ltb 32 most ⌝ }
 {
     if most < 33 { most as u32 } else { 33 }
+}
+
+// The entries that stay of two sides along the actors of v, written from `at` on. Each side's entries are judged by the other's clock and waiting
+// removes.
+pub(crate) fn keep_entries(
+    a: &[u8],
+    x: Image,
+    b: &[u8],
+    y: Image,
+    v: VClock,
+    out: &mut [u8],
+    at: usize,
+) -> Rows
+    requires { ⌜ Held (now a) x × Held (now b) y × (v .len ≤ 16) × Rise dots (dotsOf v) × (at < 65536) ⌝ }
+    ensures { λ r. ⌜ WroteRows (now (out .entry)) at (keptEntries (map (λ d. actorOf d) (dotsOf v)) (imageOf (now (a .entry))) (imageOf (now (b .entry)))) (now (out .exit)) (r .n) (r .at) ⌝ }
+{
+    let n = v.len;
+    let actors = actors_of(v);
+    let va = counts(a, 28, index(fields::u32_at(a, 24)), &actors, n);
+    let vb = counts(b, 28, index(fields::u32_at(b, 24)), &actors, n);
+    let xs = x.places;
+    let ys = y.places;
+    let xw = x.starts;
+    let yw = y.starts;
+    let mut ka = [0u64; 1024];
+    kills::kill_lines(b, ys, y.entries, a, xw, x.waits, v, &mut ka);
+    let mut kb = [0u64; 1024];
+    kills::kill_lines(a, xs, x.entries, b, yw, y.waits, v, &mut kb);
+    merge_entries(
+        a,
+        index(fields::u32_at(a, 8)),
+        x.entries,
+        b,
+        index(fields::u32_at(b, 8)),
+        y.entries,
+        &actors,
+        n,
+        &va,
+        &ka,
+        &vb,
+        &kb,
+        out,
+        at,
+    )
+}
+
+// The waiting removes of two sides, joined by equal clock, less those that v covers, written from `at` on: a has m from p on, b has l from q on.
+pub(crate) fn keep_waits(
+    a: &[u8],
+    p: usize,
+    m: usize,
+    b: &[u8],
+    q: usize,
+    l: usize,
+    v: VClock,
+    out: &mut [u8],
+    at: usize,
+) -> Waits
+    requires { ⌜ WaitsReady (dotsOf v) (now a) p m (now b) q l × (v .len ≤ 16) × (at < 4294967296) ⌝ }
+    ensures { λ r. ⌜ WroteWaits (now (out .entry)) at (keptWaits (dotsOf v) (waitsAt (now (a .entry)) p m) (waitsAt (now (b .entry)) q l)) (now (out .exit)) r ⌝ }
+{
+    let n = v.len;
+    let actors = actors_of(v);
+    let line = counters_of(v);
+    merge_waits(a, p, m, b, q, l, &actors, n, &line, out, at)
+}
+
+// The entries that stay of two sides along the actors of v, written from `start` on; then the waiting removes of the first and l of the second,
+// less those that `settled` covers.
+pub(crate) fn drafted(
+    a: &[u8],
+    x: Image,
+    b: &[u8],
+    y: Image,
+    v: VClock,
+    l: usize,
+    settled: VClock,
+    out: &mut [u8],
+    start: usize,
+) -> Draft
+    requires { ⌜ Held (now a) x × Held (now b) y × WaitsReady (dotsOf settled) (now a) (waitsStart (now a)) (x .waits) (now b) (waitsStart (now b)) l × (v .len ≤ 16) × (settled .len ≤ 16) × Rise dots (dotsOf v) × (start ≤ 220) ⌝ }
+    ensures { λ r. ⌜ DraftOf (keptEntries (map (λ d. actorOf d) (dotsOf v)) (imageOf (now (a .entry))) (imageOf (now (b .entry)))) (keptWaits (dotsOf settled) (waitsAt (now (a .entry)) (waitsStart (now (a .entry))) (x .waits)) (waitsAt (now (b .entry)) (waitsStart (now (b .entry))) l)) start r (now (out .entry)) (now (out .exit)) ⌝ }
+{
+    let e = keep_entries(a, x, b, y, v, out, start);
+    let w = keep_waits(
+        a,
+        index(fields::u32_at(a, 16)),
+        x.waits,
+        b,
+        index(fields::u32_at(b, 16)),
+        l,
+        settled,
+        out,
+        e.at,
+    );
+    Draft {
+        entries: e.n as u32,
+        waits: w.n as u32,
+        most: capped(w.most),
+        middle: e.at as u32,
+        end: w.at as u32,
+    }
 }

@@ -2,11 +2,11 @@ use mathlib.Core.Path.{_≡_, refl}
 use mathlib.Core.List.{map}
 use Prim.Native.Nat.{_-_, _≤_}
 use native.Mathlib.Omega.{arith}
-use lib.ListN.{length, take, getD, length-set}
-use Rattle.dots.specs.Dot.{actorOf, noDot}
+use lib.ListN.{length, take, length-set}
+use Rattle.dots.specs.Dot.{actorOf}
 use Rattle.clocks.specs.VClock.{dotsOf}
 use Rattle.clocks.proofs.Steps.{mapped}
-use Rattle.merging.proofs.DraftSteps.{actors-on}
+use Rattle.merging.proofs.DraftSteps.{taken-on}
 use borrow.Author.Needs.{needs}
 use Rattle.merging.proofs.draft.actors_of.Statement.{statement}
 use Rattle.merging.proofs.draft.actors_of.Tie as tie
@@ -27,7 +27,7 @@ loop-again : tie.Need-loop-again Inv-loop μ-loop
 loop-again c =
     let t = c .before .loop-test .taken in let z = c .before .before .loop .inv in let pre = c .before .before .before .pre in let a = c .before .before .before .args in
     let long : length (a .t1 .dots) ≡ 16 = search mapped in
-    (omega arith, simp length-set (z .1), actors-on (a .t1 .dots) (c .before .before .loop .actors) (c .before .before .loop .i) (getD (a .t1 .dots) (c .before .before .loop .i) noDot) (z .2) (omega arith) (omega arith) refl)
+    (omega arith, simp length-set (z .1), taken-on (λ d. actorOf d) (a .t1 .dots) (c .before .before .loop .actors) (c .before .before .loop .i) (z .2) (omega arith) (omega arith))
 
 returns : tie.Need-returns Inv-loop μ-loop
 returns c = let t = c .loop-test .left in let z = c .before .loop .inv in let e : c .before .loop .i ≡ c .before .before .args .t1 .len = omega arith in rw (← e) (z .2)

@@ -1,0 +1,76 @@
+-- What the loop over entries starts from, of two sides that are held.
+use Prim.Native.Nat.{ℕ, zero, suc, _+_, _*_, _≤_, _<_}
+use mathlib.Core.Path.{_≡_, refl, sym, ap, ap₂, _∙_}
+use mathlib.Core.List.{List, [], _∷_, map}
+use native.Mathlib.Omega.{arith}
+use lib.ListN.{length, take, drop, getD, replicate, length-map}
+use Rattle.tables.specs.Zip.{Rise}
+use Rattle.dots.specs.Dot.{dots, actorOf}
+use Rattle.clocks.specs.declared.VClock.{VClock}
+use Rattle.clocks.specs.VClock.{dotsOf}
+use Rattle.replica.specs.Replica.{Entry, Wait}
+use Rattle.replica.specs.Kills.{killsOf}
+use Rattle.layout.specs.Fields.{u32At}
+use Rattle.layout.specs.Clock.{dotsAt, clockIn}
+use Rattle.layout.specs.Rows.{rowAt, rowEnd}
+use Rattle.layout.specs.Image.{imageIn, imageOf, entriesStart, entriesCount}
+use Rattle.layout.specs.Form.{length-listAt}
+use Rattle.kills.specs.Lines.{killLines, membersOf, waitsOf}
+use Rattle.kills.specs.Laws.{kill-numbers}
+use Rattle.image.specs.declared.Image.{Image}
+use Rattle.merging.specs.Rowing.{Side, Ready}
+use Rattle.merging.specs.Draft.{Counts, Held}
+use Rattle.merging.proofs.DraftSteps.{taken-at, clock-long}
+
+drop-here : (f : Entry → ℕ) (es : List Entry) (j : ℕ) (e : Entry) (rest : List Entry) → drop j es ≡ e ∷ rest → (j < length es) × (getD (map f es) j 0 ≡ f e)
+drop-here f es zero e rest p = (let l = ap length p in omega arith, ap (λ (l : List Entry). getD (map f l) 0 0) p)
+drop-here f [] (suc j) e rest p = let l = ap length p in absurd (omega arith)
+drop-here f (x ∷ es) (suc j) e rest p = let r = drop-here f es j e rest p in (let l = r .0 in omega arith, r .1)
+
+held-few : (s : List ℕ) (x : Image) → Held s x → length (imageOf s .entries) ≤ 64
+unfolding imageIn
+held-few s x H = let l = length-listAt rowAt rowEnd s (entriesStart s) (entriesCount s) in let n = H .number in let f = H .few in omega arith
+
+-- the lines of one side: actors vs, clock counters va, and k, the kill lines that its waiting removes have for the entries of the other
+module _ (v : VClock) (vs : List ℕ) (few : v .len ≤ 16) (rise : Rise dots (dotsOf v)) (long : length vs ≡ 16) (actors : take (v .len) vs ≡ map (λ d. actorOf d) (dotsOf v)) where
+  abbrev Killed : List ℕ → Image → List ℕ → Image → List ℕ → Type 0
+  Killed s x t y k = k ≡ killLines (dotsOf v) (membersOf t (y .places) (y .entries)) (waitsOf s (x .starts) (x .waits)) (replicate 1024 0)
+
+  lines-of : (s : List ℕ) (x : Image) (t : List ℕ) (y : Image) (k : List ℕ) → Held s x → Held t y → Killed s x t y k
+      → (j i : ℕ) (e : Entry) (rest : List Entry) → drop j (imageOf t .entries) ≡ e ∷ rest → i < v .len → getD k (16 * j + i) 0 ≡ killsOf (imageOf s .waiting) (e .member) (getD vs i 0)
+  lines-of s x t y k H G z j i e rest d h =
+      let ms = map (λ e. e .member) (imageOf t .entries) in
+      let r = drop-here (λ e. e .member) (imageOf t .entries) j e rest d in
+      let lm : length ms ≡ length (imageOf t .entries) = simp length-map in
+      let n = clock-long v vs long few actors in
+      let m = held-few t y G in
+      let l = r .0 in
+      ap (λ (l : List ℕ). getD l (16 * j + i) 0) (z ∙ ap₂ (λ (a : List ℕ) (b : List Wait). killLines (dotsOf v) a b (replicate 1024 0)) (G .members) (H .waiting))
+      ∙ kill-numbers (dotsOf v) ms rise (G .rise) (omega arith) (omega arith) (imageOf s .waiting) (H .ordered) j i (omega arith) (omega arith)
+      ∙ ap₂ (killsOf (imageOf s .waiting)) (r .1) (sym (taken-at (λ d. actorOf d) refl (dotsOf v) vs (v .len) actors i h))
+
+  side-of : (s : List ℕ) (x : Image) (p m : ℕ) (va k : List ℕ) (es : List Entry) → Held s x → p ≡ u32At s 8 → m ≡ u32At s 24 → Counts (dotsAt s 28 m) vs (v .len) va
+      → ((j i : ℕ) (e : Entry) (rest : List Entry) → drop j es ≡ e ∷ rest → i < v .len → getD k (16 * j + i) 0 ≡ killsOf (imageOf s .waiting) (e .member) (getD vs i 0))
+      → Side (imageOf s) s p (x .entries) vs va k (v .len) es
+  unfolding imageIn clockIn
+  side-of s x p m va k es H ep em c l =
+      let n = H .number in
+      let g = H .edge in
+      record {
+        rows = rw (ep, n);
+        few = H .few;
+        edge = rw (ep, n) (omega arith);
+        rise = rw (ep, n) (H .rise);
+        clock = (rw em at c) .is;
+        lines = l;
+      }
+
+  pub ready-of : (s : List ℕ) (x : Image) (t : List ℕ) (y : Image) (p q m k : ℕ) (va vb ka kb : List ℕ) → Held s x → Held t y → p ≡ u32At s 8 → q ≡ u32At t 8
+      → m ≡ u32At s 24 → k ≡ u32At t 24 → Counts (dotsAt s 28 m) vs (v .len) va → Counts (dotsAt t 28 k) vs (v .len) vb → Killed s x t y ka → Killed t y s x kb
+      → Ready (imageOf s) (imageOf t) s p (x .entries) t q (y .entries) vs (v .len) va ka vb kb
+  ready-of s x t y p q m k va vb ka kb H G ep eq em ek ca cb za zb = record {
+    ours = side-of s x p m va ka (imageOf t .entries) H ep em ca (lines-of s x t y ka H G za);
+    theirs = side-of t y q k vb kb (imageOf s .entries) G eq ek cb (lines-of t y s x kb G H zb);
+    few = few;
+    long = omega arith;
+  }
