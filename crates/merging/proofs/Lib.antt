@@ -9,3 +9,5 @@ pub mod WaitLoop
 pub mod DraftSteps
 pub mod Sides
 pub mod Link
+pub mod Results
+pub mod Merges
