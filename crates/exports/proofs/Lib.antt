@@ -1,3 +1,4 @@
 pub mod Replied
 pub mod Short
 pub mod Named
+pub mod Clocks

@@ -11,16 +11,26 @@ use lib.Seq.{sets}
 use borrow.Author.Tests.{lt-ltb, le-ltb}
 use Rattle.tables.specs.Table.{pick}
 use Rattle.tables.specs.Stores.{sets-append}
-use Rattle.replica.specs.Validate.{Spent}
+use Rattle.dots.specs.declared.Dot.{Dot}
+use Rattle.dots.specs.declared.DotRange.{DotRange}
 use Rattle.dots.specs.Dot.{actorOf}
+use Rattle.clocks.specs.declared.VClock.{VClock}
+use Rattle.clocks.specs.VClock.{vclock}
+use Rattle.replica.specs.Validate.{Spent}
 use Rattle.layout.specs.Fields.{le32, le64, length-le32, length-le64}
 use Rattle.layout.specs.Clock.{encodeDotIn}
+use Rattle.operations.specs.declared.Op.the-variants.{Add, Remove}
+use Rattle.operations.specs.declared.OpValidation.{OpValidation}
+use Rattle.operations.specs.declared.OpValidation.the-variants.{Gap}
+use Rattle.operations.specs.Calls.{validateOpCall, validationSays as opSays}
 use Rattle.validating.specs.declared.Spent.{Spent as SpentDot}
 use Rattle.validating.specs.declared.Validation.{Validation}
 use Rattle.validating.specs.declared.Validation.the-variants.{DoubleSpent}
 use Rattle.validating.specs.Calls.{validationSays, validateMergeCall}
-use Rattle.exports.specs.Reply.{Replies, ifRoom}
-use Rattle.exports.specs.Calls.{spentBytes, spentOf, namedSpent, spentReply, validateMergeReply}
+use Rattle.exports.specs.Reply.{oneNumber, Replies, ifRoom}
+use Rattle.exports.specs.Lent.{clockLent}
+use Rattle.exports.specs.Calls.{gapBytes, namedGap, validateAddReply, validateRemoveReply, spentBytes, spentOf, namedSpent, spentReply, validateMergeReply}
+use Rattle.exports.proofs.Replied.{alone}
 
 none-named : (room : ℕ) → ifRoom room [] ≡ []
 unfolding ifRoom
@@ -38,6 +48,37 @@ module _ (before bytes : List ℕ) where
   pub with-room : (after : List ℕ) → length bytes ≤ length before → after ≡ sets before 0 bytes → after ≡ sets before 0 (ifRoom (length before) bytes)
   unfolding ifRoom
   with-room after h e = rw (le-ltb (length before) (length bytes) h) e
+
+-- ---- a gap
+
+pub gap-length : (g : DotRange) → length (gapBytes g) ≡ 16
+unfolding gapBytes
+gap-length g = simp (length-append, length-le64)
+
+pub gap-put : (g : DotRange) (o p q : List ℕ) → p ≡ sets o 0 (le64 (g .start)) → q ≡ sets p 8 (le64 (g .end)) → q ≡ sets o 0 (gapBytes g)
+unfolding gapBytes
+gap-put g o p q e f = rw (f, e) (sym (simp (sets-append, length-le64)))
+
+module _ (before : List ℕ) (v : OpValidation) where
+  abbrev gapPart : OpValidation → List ℕ
+  gapPart w = ifRoom (length before) (namedGap ((opSays w) .range))
+
+  pub no-gap : (w : OpValidation) → v ≡ w → (opSays w) .range ≡ none → before ≡ sets before 0 (gapPart v)
+  unfolding namedGap
+  no-gap w e n = rw (e, n, none-named (length before))
+
+  pub a-gap : (g : DotRange) (after : List ℕ) → v ≡ Gap g → after ≡ sets before 0 (ifRoom (length before) (gapBytes g)) → after ≡ sets before 0 (gapPart v)
+  unfolding namedGap opSays
+  a-gap g after e h = rw e h
+
+pub add-replies : (s : List ℕ) (d : Dot) (ms before after : List ℕ) (c : VClock) (v : OpValidation) (n r : ℕ) → c ≡ vclock [] → opSays v ≡ validateOpCall s (Add d) c ms → n ≡ (opSays v) .number → r ≡ n * 4294967296 + 0
+    → after ≡ sets before 0 (ifRoom (length before) (namedGap ((opSays v) .range))) → Replies (validateAddReply s d ms (length before)) before r after
+unfolding validateAddReply
+add-replies s d ms before after c v n r z e f g h = rw (← z, ← e) (record { answer = g ∙ ap (λ (k : ℕ). k * 4294967296 + 0) f; output = h })
+
+pub remove-replies : (s b ms : List ℕ) (c : VClock) (v : OpValidation) (n r : ℕ) → c ≡ clockLent b → opSays v ≡ validateOpCall s Remove c ms → n ≡ (opSays v) .number → r ≡ n * 4294967296 + 0 → r ≡ oneNumber (validateRemoveReply s b ms)
+unfolding validateRemoveReply
+remove-replies s b ms c v n r z e f g = rw (← z, ← e, ← f) (alone n r g)
 
 -- ---- a double-spent dot
 

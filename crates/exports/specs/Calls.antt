@@ -4,19 +4,24 @@ use mathlib.Core.Option.{Option, none, some}
 use mathlib.Core.List.{List, [], _++_}
 use lib.ListN.{length}
 use Rattle.tables.specs.Table.{pick}
-use Rattle.clocks.specs.VClock.{dotsOf}
+use Rattle.dots.specs.declared.Dot.{Dot}
+use Rattle.dots.specs.declared.DotRange.{DotRange}
+use Rattle.clocks.specs.VClock.{dotsOf, vclock}
 use Rattle.replica.specs.Limits.{full}
 use Rattle.replica.specs.Validate.{Spent}
-use Rattle.layout.specs.Fields.{le32}
+use Rattle.layout.specs.Fields.{le32, le64}
 use Rattle.layout.specs.Clock.{encodeDot, encodeClock}
 use Rattle.layout.specs.Rows.{encodeMembers}
 use Rattle.layout.specs.Image.{encode}
 use Rattle.image.specs.Image.{checkCall, clockCall}
 use Rattle.results.specs.Call.{Call, numberOf}
+use Rattle.operations.specs.declared.Op.the-variants.{Add, Remove}
+use Rattle.operations.specs.Calls.{validateOpCall}
 use Rattle.reading.specs.Calls.{containsCall, membersRead, readNumber}
 use Rattle.validating.specs.declared.Spent.{Spent as SpentDot}
 use Rattle.validating.specs.Calls.{Validated, validateMergeCall}
 use Rattle.exports.specs.Reply.{Reply, reply, fitted, ifRoom}
+use Rattle.exports.specs.Lent.{clockLent}
 
 -- "Whether the bytes are a well-formed image of a replica."
 unfoldable pub checkReply : List ℕ → Reply
@@ -38,6 +43,22 @@ readReply s room = reply (readNumber s room) (length (membersRead s)) (encodeMem
 -- "Writes the replica's clock. Length: of the clock in bytes."
 unfoldable pub clockReply : List ℕ → ℕ → Reply
 clockReply s room = let x = clockCall s in fitted room (x .no) (length (encodeClock (dotsOf (x .clock)))) (encodeClock (dotsOf (x .clock)))
+
+-- "start, the first counter missing, and end, the dot's counter, which is not missing itself; 64-bit little-endian"
+unfoldable pub gapBytes : DotRange → List ℕ
+gapBytes g = le64 (g .start) ++ le64 (g .end)
+
+unfoldable pub namedGap : Option DotRange → List ℕ
+namedGap none = []
+namedGap (some g) = gapBytes g
+
+-- "Whether an add under the dot actor.counter follows what the replica has seen of the actor. .. At 11 it writes the gap where 16 bytes fit"
+unfoldable pub validateAddReply : List ℕ → Dot → List ℕ → ℕ → Reply
+validateAddReply s d ms room = let v = validateOpCall s (Add d) (vclock []) ms in record { number = v .number; low = 0; bytes = ifRoom room (namedGap (v .range)) }
+
+-- "Whether the arguments of a remove are good ones."
+unfoldable pub validateRemoveReply : List ℕ → List ℕ → List ℕ → Reply
+validateRemoveReply s c ms = reply ((validateOpCall s Remove (clockLent c) ms) .number) 0 []
 
 -- "actor, counter (64 bits), a's member, b's member; little-endian"
 unfoldable pub spentBytes : Spent → List ℕ
