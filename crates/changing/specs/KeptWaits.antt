@@ -50,7 +50,7 @@ nextWait v o x y = pick (covers v (nextClock o x y)) none (some (record { clock 
 no-members : Normal memberSets []
 no-members = record { asc = tt; proper = tt }
 
-sets-left : (x : List ℕ) → Normal memberSets x → bothSets x [] ≡ x
+pub sets-left : (x : List ℕ) → Normal memberSets x → bothSets x [] ≡ x
 unfolding bothSets zip
 sets-left x h = ext memberSets (bothSets x []) x (normal-join memberSets (λ m. get memberSets x m || false) x [] no-members) h
     (λ m. get-join memberSets (λ m. get memberSets x m || false) x [] (λ m e f. rw e) m ∙ or-false (get memberSets x m))

@@ -11,3 +11,5 @@ pub mod Sides
 pub mod Link
 pub mod Results
 pub mod Merges
+pub mod ResetLists
+pub mod ResetSteps

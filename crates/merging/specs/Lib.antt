@@ -4,3 +4,4 @@ pub mod Rowing
 pub mod Waiting
 pub mod Draft
 pub mod Merge
+pub mod Reset

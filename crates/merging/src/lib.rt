@@ -8,6 +8,7 @@ use results::Written;
 mod ahead;
 mod draft;
 mod entries;
+mod reset;
 mod waits;
 
 // The merge of two replicas, written from byte 0. Refuses 1, 2; then 6, 7, 8, 9 on the finished result; then 10.

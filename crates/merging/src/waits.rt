@@ -163,7 +163,7 @@ pub(crate) struct Part {
     end: usize,
 }
 
-fn part_at(s: &[u8], p: usize, taken: usize) -> Part
+pub(crate) fn part_at(s: &[u8], p: usize, taken: usize) -> Part
     requires { ⌜ p < 4294967296 ⌝ }
     ensures { λ r. ⌜ PartAt (now (s .entry)) p taken r ⌝ }
 {
@@ -186,12 +186,12 @@ fn part_at(s: &[u8], p: usize, taken: usize) -> Part
 // What a turn wrote: how many bytes, how many waiting removes, and how many members it names.
 pub(crate) struct Put {
     long: usize,
-    count: usize,
+    pub(crate) count: usize,
     names: usize,
 }
 
 // The waiting remove with the clock at p of c and the members of both parts, written from `at` on; nothing where the clock covers it.
-fn put_wait(
+pub(crate) fn put_wait(
     c: &[u8],
     p: usize,
     s: &[u8],
