@@ -107,6 +107,25 @@ row-side s p m low i xs small h e =
     let q = h .is small in
     rw (e, q) (side-by s p m low small (eqb (keyAhead s p m) low) refl (rw q at (h .fits)))
 
+-- the numbers of a turn are small
+pub record RowNumbers (w : Rows) (i j xs ys : ℕ) : Type 0 where
+  pub left-one : i ≤ 1
+  pub right-one : j ≤ 1
+  pub left-fits : i ≤ w .m
+  pub right-fits : j ≤ w .k
+  pub left-room : w .p + 8 * i + 12 * xs < 4294967296
+  pub right-room : w .q + 8 * j + 12 * ys < 4294967296
+
+pub row-numbers : (s t : List ℕ) (w : Rows) (low i j xs ys : ℕ) → rowsEnd s (w .p) (w .m) < 4294967296 → rowsEnd t (w .q) (w .k) < 4294967296 → RowSide s (w .p) (w .m) low i xs → RowSide t (w .q) (w .k) low j ys → RowNumbers w i j xs ys
+row-numbers s t w low i j xs ys ea eb a b = record {
+  left-one = a .one;
+  right-one = b .one;
+  left-fits = a .fits;
+  right-fits = b .fits;
+  left-room = omega (arith, a .room);
+  right-room = omega (arith, b .room);
+}
+
 -- one of the two sides is met
 pub met-one : (s : List ℕ) (p m : ℕ) (t : List ℕ) (q k low i j : ℕ) → low ≡ min (keyAhead s p m) (keyAhead t q k) → low < 4294967296 → Met s p m low i → Met t q k low j → 0 < i + j
 met-one s p m t q k low i j e small a b =

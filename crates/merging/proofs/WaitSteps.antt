@@ -278,6 +278,10 @@ turned s t w side i j x y h e ei ej px py =
     }
 
 -- the numbers of a turn: which side has the clock, and how many bytes both take
+-- both places are in 32 bits
+pub starts-small : {s t : List ℕ} {w : Waits} → waiting.WaitsAhead s t w → (w .p < 4294967296) × (w .q < 4294967296)
+starts-small {s} {t} {w} h = let a = end-ge s (w .p) (w .m) in let b = end-ge t (w .q) (w .k) in let ea = h .left-edge in let eb = h .right-edge in (omega arith, omega arith)
+
 pub record Numbers (s t : List ℕ) (w : Waits) (side i j : ℕ) (x y : Part) : Type 0 where
   pub left-few : (side ≡ 2 → ⊥) → u32At s (w .p) ≤ 16
   pub right-few : side ≡ 2 → u32At t (w .q) ≤ 16

@@ -1,5 +1,4 @@
-use Prim.Native.Nat.{ℕ, _+_, _≤_, _<_}
-use mathlib.Core.Path.{_≡_, _∙_}
+use mathlib.Core.Path.{_∙_}
 use native.Mathlib.Omega.{arith}
 use Rattle.merging.proofs.DraftSteps.{draft-of}
 use borrow.Author.Needs.{needs}
