@@ -1,4 +1,4 @@
-use Prim.Native.Nat.{ℕ}
+use Prim.Native.Nat.{ℕ, _≤_}
 use lib.ListN.{length-replicate}
 use Rattle.merging.proofs.Merges.{first-bad, second-bad, clock-crowded, clock-merged, merge-ready, merge-meets}
 use native.Mathlib.Omega.{arith}
@@ -9,11 +9,14 @@ use Rattle.merging.proofs.merge.Tie as tie
 returns : tie.Need-returns
 returns c = clock-crowded _ _ (c .before .before .before .before .before .before .before .before .before .check .ensures) (c .before .before .before .before .before .before .before .before .if1 .taken) _ _ (c .before .before .before .before .before .before .before .check2 .ensures) (c .before .before .before .before .before .before .if2 .taken) _ (c .before .before .before .merge .ensures) (c .before .if3 .taken) _ _ (c .refused .ensures)
 
+few : (c : tie.After-v) → c .before .before .before .merge .result .clock .len ≤ 16
+few c = clock-merged _ _ (c .before .before .before .before .before .before .before .before .before .check .ensures) (c .before .before .before .before .before .before .before .before .if1 .taken) _ _ (c .before .before .before .before .before .before .before .check2 .ensures) (c .before .before .before .before .before .before .if2 .taken) _ (c .before .before .before .merge .ensures) (c .before .if3 .left) .few
+
 mul-drafted : tie.Need-mul-drafted
-mul-drafted c = let f = clock-merged _ _ (c .before .before .before .before .before .before .before .before .before .before .before .check .ensures) (c .before .before .before .before .before .before .before .before .before .before .if1 .taken) _ _ (c .before .before .before .before .before .before .before .before .before .check2 .ensures) (c .before .before .before .before .before .before .before .before .if2 .taken) _ (c .before .before .before .before .before .merge .ensures) (c .before .before .before .if3 .left) .few in omega arith
+mul-drafted c = let f = few (c .before .before) in omega arith
 
 add-drafted : tie.Need-add-drafted
-add-drafted c = let f = clock-merged _ _ (c .before .before .before .before .before .before .before .before .before .before .before .check .ensures) (c .before .before .before .before .before .before .before .before .before .before .if1 .taken) _ _ (c .before .before .before .before .before .before .before .before .before .check2 .ensures) (c .before .before .before .before .before .before .before .before .if2 .taken) _ (c .before .before .before .before .before .merge .ensures) (c .before .before .before .if3 .left) .few in omega arith
+add-drafted c = let f = few (c .before .before) in omega arith
 
 drafted-requires : tie.Need-drafted-requires
 drafted-requires c κs = merge-ready _ _ (c .before .before .before .before .before .before .before .before .before .before .before .check .ensures) (c .before .before .before .before .before .before .before .before .before .before .if1 .taken) _ _ (c .before .before .before .before .before .before .before .before .before .check2 .ensures) (c .before .before .before .before .before .before .before .before .if2 .taken) _ (c .before .before .before .before .before .merge .ensures) (c .before .before .before .if3 .left)
