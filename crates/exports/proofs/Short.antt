@@ -1,7 +1,7 @@
 -- Every length and count fits the lower half.
 use Prim.Native.Nat.{ℕ, _+_, _*_, _≤_, _<_, min}
 use mathlib.Core.Path.{_≡_, refl, sym, ap, _∙_}
-use mathlib.Core.Bool.{Bool, true, false}
+use mathlib.Core.Bool.{Bool, true, false, not, false≢true}
 use mathlib.Core.List.{List, [], _∷_}
 use native.Mathlib.Omega.{arith}
 use lib.Dec.{T, eqb}
@@ -12,15 +12,19 @@ use Rattle.tables.specs.Refusal.{NoneApplies, firstOf}
 use Rattle.tables.specs.Ascending.{before, ascending}
 use Rattle.clocks.specs.declared.VClock.{VClock}
 use Rattle.clocks.specs.VClock.{dotsOf}
-use Rattle.replica.specs.Limits.{full, Within, unbroken-right, well-formed-from}
+use Rattle.replica.specs.Replica.{Replica}
+use Rattle.replica.specs.Limits.{full, Within, wellFormed, unbroken-right, well-formed-from}
+use Rattle.replica.specs.History.{Event, MergeWith, step}
+use Rattle.replica.specs.LimitLaws.{fits, step-well-formed}
 use Rattle.replica.specs.Reads.{read}
 use Rattle.layout.specs.Clock.{encodeClock}
 use Rattle.layout.specs.Image.{encode, imageOf, goodImage}
 use Rattle.layout.specs.Kit.{length-encodeClock}
-use Rattle.layout.specs.Main.{good-formed, empty-length}
+use Rattle.layout.specs.Main.{at-most, good-formed, empty-length}
 use Rattle.results.specs.declared.Written.{Written}
 use Rattle.results.specs.Call.{Call, numberOf, answered, answerOf, Meets}
 use Rattle.results.specs.Laws.{Orderly, done-exactly}
+use Rattle.merging.specs.Merge.{mergeCall}
 use Rattle.reading.specs.declared.MembersAnswer.{MembersAnswer}
 use Rattle.reading.specs.Calls.{emptyCall, membersRead, readNumber, membersAnswer, readCall, ReadMeets}
 
@@ -45,6 +49,20 @@ module _ (c : Call) (orderly : Orderly c) (most : NoneApplies (c .refusals) → 
           let l : w .len ≡ length (encode (c .result)) = len-is ∙ rw e in
           omega arith
       go false e = let l : w .len ≡ 0 = len-is ∙ rw e in omega arith
+
+-- an event that passes and breaks no limit gives a well-formed replica
+event-short : (c : Call) (e : Event) (A : Replica) → Orderly c → c .result ≡ step e A → (NoneApplies (c .refusals) → T (fits full e) × T (wellFormed full A))
+    → (out after : List ℕ) (w : Written) → Meets full c out w after → w .len ≤ 18268
+event-short c e A o r p = short c o (λ n h. rw r (at-most (step e A) (step-well-formed full e A (p n .0) (p n .1) ((unbroken-right full (step e A)) .1 (rw r at h)))))
+
+passed : (b : Bool) → not b ≡ false → T b
+passed true e = tt
+passed false e = absurd (false≢true (sym e))
+
+pub merge-short : (a b out after : List ℕ) (w : Written) → Meets full (mergeCall a b) out w after → w .len ≤ 18268
+unfolding mergeCall ascending before step fits
+merge-short a b = event-short (mergeCall a b) (MergeWith (imageOf b)) (imageOf a) tt refl
+    (λ n. (good-formed b (passed (goodImage b) (n .1 .0)), good-formed a (passed (goodImage a) (n .0))))
 
 pub empty-short : (before after : List ℕ) (w : Written) → Meets full emptyCall before w after → w .len ≤ 18268
 unfolding ascending before
