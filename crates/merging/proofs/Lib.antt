@@ -13,3 +13,5 @@ pub mod Results
 pub mod Merges
 pub mod ResetLists
 pub mod ResetSteps
+pub mod Seen
+pub mod Resets

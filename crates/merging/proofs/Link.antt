@@ -30,7 +30,7 @@ use Rattle.merging.specs.Draft.{Held}
 use Rattle.merging.specs.Waiting.{Sound, WaitsReady}
 use Rattle.merging.proofs.WaitSteps.{end-ge}
 
-short : (s : List ℕ) → goodImage s ≡ true → length s ≤ 18268
+pub short : (s : List ℕ) → goodImage s ≡ true → length s ≤ 18268
 unfolding lengthOf waitsFrom rowsFrom imageIn
 short s g =
     let r = passed s g .readable-ok in
@@ -88,7 +88,7 @@ pub none-waiting : (s : List ℕ) (p : ℕ) → p < 65536 → WaitsHeld s p 0
 unfolding listAt endAfter
 none-waiting s p h = record { few = omega arith; rise = tt; all-sound = tt; edge = h }
 
-wait-sound : (w : Wait) → WaitFine full w → Sound w
+pub wait-sound : (w : Wait) → WaitFine full w → Sound w
 wait-sound w f = record {
   clock-ok = f .normal-ok;
   members-ok = record { asc = rw (map-self (w .members)) (f .rises-ok); proper = proper (w .members) };

@@ -87,7 +87,7 @@ fn counters_of(v: VClock) -> [u64; 16]
 }
 
 // A count for the draft: itself, or 33 where it is more.
-fn capped(most: usize) -> u32
+pub(crate) fn capped(most: usize) -> u32
     ensures { λ r. ⌜ ltb 32 r ≡ ltb 32 most ⌝ }
 {
     if most < 33 { most as u32 } else { 33 }

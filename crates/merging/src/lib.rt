@@ -11,6 +11,8 @@ mod entries;
 mod reset;
 mod waits;
 
+pub use reset::reset_remove;
+
 // The merge of two replicas, written from byte 0. Refuses 1, 2; then 6, 7, 8, 9 on the finished result; then 10.
 pub fn merge(a: &[u8], b: &[u8], out: &mut [u8]) -> Written
     ensures { λ r. ⌜ Meets full (mergeCall (now (a .entry)) (now (b .entry))) (now (out .entry)) r (now (out .exit)) ⌝ }
