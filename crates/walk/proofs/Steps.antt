@@ -1,18 +1,17 @@
 -- Each test of the code says what the definition does.
-use mathlib.Core.Path.{_≡_, refl, sym, ap, _∙_}
-use mathlib.Core.List.{List, [], _∷_}
+use mathlib.Core.Path.{_≡_, refl, sym, _∙_}
+use mathlib.Core.List.{List, []}
 use mathlib.Core.Bool.{Bool, true, false}
 use Prim.Native.Nat.{ℕ, _+_, _*_, _-_, _≤_, _<_}
 use native.Mathlib.Omega.{arith}
 use borrow.Author.Tests.{lt-leb, le-leb, lt-ltb, le-ltb, leb-true, eq-eqb, ne-eqb}
-use lib.Dec.{leb, ltb, eqb}
+use lib.Dec.{leb, ltb}
 use lib.ListN.{length, take, drop}
 use Rattle.tables.specs.Table.{pick}
 use Rattle.layout.specs.Fields.{u32At}
 use Rattle.layout.specs.Clock.{clockEndIn}
 use Rattle.layout.specs.Rows.{rowEnd, rowEndIn}
 use Rattle.layout.specs.Image.{goodImage}
-use Rattle.walk.specs.declared.Hand.{Hand}
 use Rattle.walk.specs.declared.Hand.the-variants.{One, Nothing}
 use Rattle.walk.specs.Walks.{endAt, startAt, handAt, partAt, onwardAt}
 

@@ -1,23 +1,23 @@
 -- What a walk hands out: of a well-formed image exactly its entries, ascending, each with the bytes of its clock; of any other bytes none.
-use mathlib.Core.Path.{_≡_, refl, sym, ap, ap₂, _∙_}
+use mathlib.Core.Path.{_≡_, refl, ap, _∙_}
 use mathlib.Core.List.{List, [], _∷_, map}
 use mathlib.Core.Bool.{Bool, true, false}
-use Prim.Native.Nat.{ℕ, suc, zero, _+_, _*_, _-_, _≤_, _<_}
+use Prim.Native.Nat.{ℕ, suc, zero, _+_, _-_, _≤_, _<_}
 use native.Mathlib.Omega.{arith}
 use borrow.Author.Tests.{lt-leb, le-leb, lt-ltb, le-ltb, eq-eqb, ne-eqb}
-use lib.Dec.{leb, ltb, eqb, T}
-use lib.ListN.{length, take, drop}
+use lib.Dec.{ltb}
+use lib.ListN.{length}
 use Rattle.tables.specs.Table.{pick}
 use Rattle.replica.specs.Replica.{Entry}
 use Rattle.layout.specs.Fields.{Bytes, u32At}
 use Rattle.layout.specs.Lists.{listAt, endAfter}
-use Rattle.layout.specs.Clock.{clockAt, clockEnd, clockEndIn, encodeClock}
+use Rattle.layout.specs.Clock.{clockAt, clockEndIn, encodeClock}
 use Rattle.layout.specs.Rows.{rowAt, rowIn, rowEnd, rowEndIn, rowsAt, rowsEnd}
 use Rattle.layout.specs.Image.{goodImage, imageIn, imageOf, entriesStart, entriesCount, waitsStart}
 use Rattle.layout.specs.Good.{goodRows}
 use Rattle.layout.specs.Kit.{part-is, first-row}
 use Rattle.layout.specs.Parts.{clock-laws}
-use Rattle.layout.specs.Checks.{Passed, passed}
+use Rattle.layout.specs.Checks.{passed}
 use Rattle.walk.specs.declared.Hand.{Hand}
 use Rattle.walk.specs.declared.Hand.the-variants.{One, Nothing}
 use Rattle.walk.specs.Walks.{endAt, startAt, handAt, partAt, onwardAt}

@@ -1,12 +1,9 @@
 -- What stands at a place of an image, for a walk over its entries.
-use mathlib.Core.Path.{_≡_, refl}
-use mathlib.Core.List.{List, [], _∷_}
-use mathlib.Core.Bool.{Bool, true, false}
-use Prim.Native.Nat.{ℕ, _+_, _*_, _-_, _≤_, _<_}
+use mathlib.Core.List.{List, []}
+use Prim.Native.Nat.{ℕ, _+_, _-_}
 use lib.Dec.{leb, ltb, eqb}
 use lib.ListN.{length, take, drop}
 use Rattle.tables.specs.Table.{pick}
-use Rattle.dots.specs.declared.Member.{Member}
 use Rattle.layout.specs.Fields.{u32At}
 use Rattle.layout.specs.Rows.{rowEnd}
 use Rattle.layout.specs.Image.{goodImage, entriesStart, waitsStart}

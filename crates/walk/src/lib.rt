@@ -1,6 +1,6 @@
 // A walk over the entries of a replica's image: it remembers the lent image and its place in it. Begun on an image that isn't well-formed, it hands out none.
 ghost use mathlib.Core.Path.{_≡_};
-ghost use Prim.Native.Nat.{ℕ, _<_};
+ghost use Prim.Native.Nat.{_<_};
 ghost use Rattle.walk.specs.Walks.{endAt, startAt, handAt, partAt, onwardAt};
 use dots::Member;
 use fields::u32_at;

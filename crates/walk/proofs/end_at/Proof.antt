@@ -1,6 +1,6 @@
 use Rattle.walk.proofs.Steps.{end-past, end-room, end-here}
 use native.Mathlib.Omega.{arith}
-use mathlib.Core.Path.{_≡_, sym, _∙_}
+use mathlib.Core.Path.{_∙_}
 use borrow.Author.Needs.{needs}
 use Rattle.walk.proofs.end_at.Statement.{statement}
 use Rattle.walk.proofs.end_at.Tie as tie

@@ -1,5 +1,4 @@
 use Rattle.walk.proofs.Steps.{hand-none, hand-one}
-use mathlib.Core.Path.{_≡_, sym, _∙_}
 use borrow.Author.Needs.{needs}
 use Rattle.walk.proofs.hand_at.Statement.{statement}
 use Rattle.walk.proofs.hand_at.Tie as tie

@@ -1,5 +1,3 @@
-use mathlib.Core.Path.{_≡_, sym, _∙_}
-use native.Mathlib.Omega.{arith}
 use Rattle.walk.proofs.Steps.{onward-none, onward-some}
 use borrow.Author.Needs.{needs}
 use Rattle.walk.proofs.onward_at.Statement.{statement}

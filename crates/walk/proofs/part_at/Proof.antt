@@ -1,4 +1,4 @@
-use mathlib.Core.Path.{_≡_, sym, _∙_}
+use mathlib.Core.Path.{_∙_}
 use native.Mathlib.Omega.{arith}
 use Rattle.walk.proofs.Steps.{entry, part-none, part-some}
 use borrow.Author.Needs.{needs}

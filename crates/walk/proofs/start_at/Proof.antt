@@ -1,7 +1,7 @@
 use Rattle.walk.proofs.Steps.{start-good, start-bad}
 use Rattle.image.proofs.Link.{image-good}
 use mathlib.Core.Bool.{true, false}
-use mathlib.Core.Path.{_≡_, sym, _∙_}
+use mathlib.Core.Path.{_∙_}
 use borrow.Author.Needs.{needs}
 use Rattle.walk.proofs.start_at.Statement.{statement}
 use Rattle.walk.proofs.start_at.Tie as tie
