@@ -1,11 +1,11 @@
 -- One turn of the loop that writes members, its end, and a waiting remove written in two parts.
 use Prim.Native.Nat.{ℕ, _+_, _*_, _≤_, _<_, min}
-use mathlib.Core.Path.{_≡_, sym, ap, _∙_}
-use mathlib.Core.List.{List, _++_}
+use mathlib.Core.Path.{_≡_, sym, _∙_}
+use mathlib.Core.List.{List}
 use native.Mathlib.Omega.{arith}
 use native.Mathlib.Numerals.{add-one}
 use lib.ListN.{length, take, drop, getD, length-take, length-append, drop-of-length-le}
-use lib.Seq.{sets, slice-cons, length-sets, length-take-le, take-all}
+use lib.Seq.{sets, slice-cons, length-take-le, take-all}
 use Rattle.tables.specs.Stores.{sets-append}
 use Rattle.tables.specs.Zip.{by-lt}
 use Rattle.clocks.specs.declared.VClock.{VClock}
@@ -49,14 +49,6 @@ module _ (m : Members) (n : ℕ) (h : length (m .at) ≡ 64) (e : n ≡ min (m .
       let l : length (take n (m .at)) ≡ n = length-take-le n (m .at) (omega arith) in
       record { long = members-long; is = w ∙ rw (← q, l, sets-append, length-le32) }
 
-  pub wait-none : (s t : List ℕ) (at r : ℕ) (c : VClock) → Put s at (encodeClock (dotsOf c)) t r → length t ≤ at → Put s at (encodeWait (waitOf c m)) t (r + 4 + 4 * n)
-  unfolding encodeWaitIn countedMembers
-  wait-none s t at r c p past =
-      let k : length t ≡ length s = ap length (p .is) ∙ length-sets s at (encodeClock (dotsOf c)) in
-      let q : t ≡ s = p .is ∙ sets-past s at (encodeClock (dotsOf c)) (omega arith) in
-      let l = p .long in let w = members-long in
-      record { long = simp length-append (omega (arith, simp length-append at w)); is = q ∙ sym (sets-past s at (encodeWait (waitOf c m)) (omega arith)) }
-
 pub wait-done : (s t u : List ℕ) (at r k : ℕ) (c : VClock) (m : Members) → Put s at (encodeClock (dotsOf c)) t r → Put t (at + r) (countedMembers m) u k → Put s at (encodeWait (waitOf c m)) u (r + k)
 unfolding encodeWaitIn countedMembers
 wait-done s t u at r k c m p q =
@@ -64,10 +56,3 @@ wait-done s t u at r k c m p q =
       long = let a = p .long in let b = q .long in simp length-append (omega (arith, simp length-append at b));
       is = q .is ∙ rw (p .is, p .long) (sym (sets-append s at (encodeClock (dotsOf c)) (countedMembers m)));
     }
-
--- how long members are at most
-pub members-short : (m : Members) (r : ℕ) → length (m .at) ≡ 64 → r ≡ length (countedMembers m) → r ≤ 260
-unfolding countedMembers
-members-short m r h e =
-    let k : length (take (m .len) (m .at)) ≤ 64 = simp length-take (omega arith) in
-    omega (arith, simp (length-append, length-le32, length-encodeMembers) at e)

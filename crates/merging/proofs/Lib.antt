@@ -1,6 +1,8 @@
 pub mod AheadSteps
 pub mod KeepSteps
 pub mod RowSteps
+pub mod SideSteps
+pub mod SideHeld
 pub mod RowLoop
 pub mod OrderSteps
 pub mod NameSteps

@@ -9,6 +9,7 @@ mod ahead;
 mod draft;
 mod entries;
 mod reset;
+mod side;
 mod waits;
 
 pub use reset::reset_remove;

@@ -1,0 +1,57 @@
+// What an operation brings, in bytes: a second side, laid out as the image of a replica is.
+ghost use mathlib.Core.Path.{_≡_};
+ghost use Prim.Native.Nat.{_<_, _≤_, compare};
+ghost use lib.ListN.{take};
+ghost use lib.Seq.{sets};
+ghost use Rattle.tables.specs.Table.{Normal, Asc};
+ghost use Rattle.dots.specs.Dot.{clocks};
+ghost use Rattle.clocks.specs.VClock.{dotsOf};
+ghost use Rattle.layout.specs.Rows.{encodeRows};
+ghost use Rattle.layout.specs.Image.{encode};
+ghost use Rattle.lists.specs.Members.{listOf};
+ghost use Rattle.changing.specs.Brought.{brought};
+ghost use Rattle.merging.specs.Side.{placesOf, sideOf, Brings};
+use clocks::VClock;
+use image::Image;
+use lists::Members;
+
+// Writes the first n members from byte 28 on, each as an entry with the one dot of c, and returns where they stand.
+fn put_rows(s: &mut [u8], m: Members, n: usize, c: VClock) -> [u32; 64]
+    requires { ⌜ (n ≤ 64) × (0 < n → c .len ≡ 1) ⌝ }
+    ensures { λ r. ⌜ (now (s .exit) ≡ sets (now (s .entry)) 28 (encodeRows (brought (dotsOf c) (take n (m .at))))) × (take n r ≡ placesOf n) ⌝ }
+{
+    let mut places = [0u32; 64];
+    let mut i: usize = 0;
+    while i < n {
+        let p = 28 + 20 * i;
+        places[i] = p as u32;
+        fields::put_row(s, p, m.at[i], c);
+        i += 1;
+    }
+    places
+}
+
+// The first n members with the clock c as entries, and the members' remove by c as one that waits. Returns where they stand.
+pub(crate) fn put_side(s: &mut [u8], c: VClock, m: Members, n: usize) -> Image
+    requires { ⌜ (n ≤ m .len) × (m .len ≤ 64) × (c .len ≤ 16) × (0 < n → c .len ≡ 1) × Asc compare (listOf m) × Normal clocks (dotsOf c) ⌝ }
+    ensures { λ r. ⌜ (now (s .exit) ≡ sets (now (s .entry)) 0 (encode (sideOf c m n))) × Brings (sideOf c m n) (encode (sideOf c m n)) r ⌝ }
+{
+    let q = 28 + 20 * n;
+    let total = q + 8 + 12 * c.len + 4 * m.len;
+    fields::put_contents(s, total as u32, 28, n as u32, q as u32, 1);
+    fields::put_u32(s, 24, 0);
+    let places = put_rows(s, m, n, c);
+    fields::put_clock(s, q, c);
+    brought::put_members(s, q + 4 + 12 * c.len, m);
+    let mut starts = [0u32; 16];
+    starts[0] = q as u32;
+    let clock = VClock::new();
+    Image {
+        good: true,
+        clock,
+        entries: n,
+        places,
+        waits: 1,
+        starts,
+    }
+}
