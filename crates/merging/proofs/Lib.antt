@@ -17,3 +17,4 @@ pub mod ResetLists
 pub mod ResetSteps
 pub mod Seen
 pub mod Resets
+pub mod Applies

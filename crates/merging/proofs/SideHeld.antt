@@ -148,6 +148,9 @@ module _ (c : VClock) (m : Members) (n : ℕ) (wide : length (m .at) ≡ 64) (lo
   unfolding lengthOf
   whole = let e = from-waits in let r = wait-end in omega arith
 
+  pub side-long : length (encode B) ≡ 36 + 20 * n + 12 * c .len + 4 * m .len
+  side-long = length-encode narrow B ∙ whole ∙ omega arith
+
   contents-are : contentsOf narrow B ≡ contents (28 + 20 * n + 8 + 12 * c .len + 4 * m .len) 28 n (28 + 20 * n) 1
   unfolding contentsOf
   contents-are = λ i. contents (whole i) (from-rows i) (entries-len i) (from-waits i) 1

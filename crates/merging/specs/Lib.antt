@@ -4,5 +4,6 @@ pub mod Rowing
 pub mod Waiting
 pub mod Draft
 pub mod Side
+pub mod Apply
 pub mod Merge
 pub mod Reset

@@ -1,4 +1,4 @@
-// The merge of two replica images.
+// Replica images: two merged, one changed by an operation, one reset.
 ghost use Rattle.replica.specs.Limits.{full};
 ghost use Rattle.results.specs.Call.{Meets};
 ghost use Rattle.merging.specs.Merge.{mergeCall};
@@ -6,12 +6,14 @@ use crate::draft::drafted;
 use results::Written;
 
 mod ahead;
+mod applying;
 mod draft;
 mod entries;
 mod reset;
 mod side;
 mod waits;
 
+pub use applying::apply;
 pub use reset::reset_remove;
 
 // The merge of two replicas, written from byte 0. Refuses 1, 2; then 6, 7, 8, 9 on the finished result; then 10.

@@ -1,16 +1,13 @@
 // What an operation brings, in bytes: a second side, laid out as the image of a replica is.
 ghost use mathlib.Core.Path.{_≡_};
-ghost use Prim.Native.Nat.{_<_, _≤_, compare};
-ghost use lib.ListN.{take};
+ghost use Prim.Native.Nat.{_+_, _*_, _<_, _≤_};
+ghost use lib.ListN.{length, take};
 ghost use lib.Seq.{sets};
-ghost use Rattle.tables.specs.Table.{Normal, Asc};
-ghost use Rattle.dots.specs.Dot.{clocks};
 ghost use Rattle.clocks.specs.VClock.{dotsOf};
 ghost use Rattle.layout.specs.Rows.{encodeRows};
 ghost use Rattle.layout.specs.Image.{encode};
-ghost use Rattle.lists.specs.Members.{listOf};
 ghost use Rattle.changing.specs.Brought.{brought};
-ghost use Rattle.merging.specs.Side.{placesOf, sideOf, Brings};
+ghost use Rattle.merging.specs.Side.{placesOf, sideOf, SideReady, Brings};
 use clocks::VClock;
 use image::Image;
 use lists::Members;
@@ -33,8 +30,8 @@ fn put_rows(s: &mut [u8], m: Members, n: usize, c: VClock) -> [u32; 64]
 
 // The first n members with the clock c as entries, and the members' remove by c as one that waits. Returns where they stand.
 pub(crate) fn put_side(s: &mut [u8], c: VClock, m: Members, n: usize) -> Image
-    requires { ⌜ (n ≤ m .len) × (m .len ≤ 64) × (c .len ≤ 16) × (0 < n → c .len ≡ 1) × Asc compare (listOf m) × Normal clocks (dotsOf c) ⌝ }
-    ensures { λ r. ⌜ (now (s .exit) ≡ sets (now (s .entry)) 0 (encode (sideOf c m n))) × Brings (sideOf c m n) (encode (sideOf c m n)) r ⌝ }
+    requires { ⌜ SideReady c m n ⌝ }
+    ensures { λ r. ⌜ (now (s .exit) ≡ sets (now (s .entry)) 0 (encode (sideOf c m n))) × Brings (sideOf c m n) (encode (sideOf c m n)) r × (length (encode (sideOf c m n)) ≡ 36 + 20 * n + 12 * c .len + 4 * m .len) ⌝ }
 {
     let q = 28 + 20 * n;
     let total = q + 8 + 12 * c.len + 4 * m.len;

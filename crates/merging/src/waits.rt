@@ -6,7 +6,6 @@ ghost use Rattle.tables.specs.Order.{lex};
 ghost use Rattle.tables.specs.Table.{pick};
 ghost use Rattle.tables.specs.Zip.{turnOf};
 ghost use Rattle.dots.specs.Dot.{cmpDot};
-ghost use Rattle.dots.specs.Clock.{merged};
 ghost use Rattle.dots.specs.Covering.{coverOf};
 ghost use Rattle.replica.specs.Replica.{waits};
 ghost use Rattle.layout.specs.Fields.{u32At};

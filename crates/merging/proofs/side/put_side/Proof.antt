@@ -2,7 +2,7 @@ use mathlib.Core.Path.{_≡_, refl}
 use lib.ListN.{length}
 use Rattle.clocks.proofs.Steps.{mapped}
 use Rattle.layout.specs.Fits.{FitsClock, FitMembers}
-use Rattle.merging.proofs.SideHeld.{clock-typed, members-typed, all-take, side-bytes, brings-side}
+use Rattle.merging.proofs.SideHeld.{clock-typed, members-typed, all-take, side-long, side-bytes, brings-side}
 use borrow.Author.Needs.{needs}
 use Rattle.merging.proofs.side.put_side.Statement.{statement}
 use Rattle.merging.proofs.side.put_side.Tie as tie
@@ -16,8 +16,9 @@ returns c =
     let wide : length (a .m .at) ≡ 64 = search needs in
     let fits : FitsClock (a .c .dots) = clock-typed (a .c .len) (a .c .dots) (c .before .before .before .before .before .before .before .before .before .before .before .before .before .before .before .before .before .before .before .before .before .before .before .struct-known .given .0) in
     let known : FitMembers (a .m .at) = members-typed (a .m .len) (a .m .at) (c .before .before .before .before .before .before .before .before .before .before .before .before .before .before .before .before .before .before .before .before .before .before .struct-known2 .given .0) in (
-      side-bytes (a .c) (a .m) (a .n) wide long (pre .2) (pre .1) (pre .0) (pre .3) _ _ _ _ _ _ _ _ (c .before .before .before .before .before .before .before .before .before .before .before .before .before .before .before .before .before .before .before .before .put-contents .ensures) (c .before .before .before .before .before .before .before .before .before .before .before .before .before .before .before .before .put-u32 .ensures) (c .before .before .before .before .before .before .before .before .before .before .before .before .put-rows .ensures .0) (c .before .before .before .before .before .before .before .before .put-clock .ensures) (c .before .before .before .put-members .ensures),
-      brings-side (a .c) (a .m) (a .n) wide long (pre .2) (pre .1) (pre .0) (pre .3) (all-take _ (a .c .len) (a .c .dots) fits) known (pre .4) (pre .5) _ refl (c .before .before .before .before .before .before .before .before .before .before .before .before .put-rows .ensures .1) refl refl,
+      side-bytes (a .c) (a .m) (a .n) wide long (pre .few) (pre .many) (pre .within) (pre .one) _ _ _ _ _ _ _ _ (c .before .before .before .before .before .before .before .before .before .before .before .before .before .before .before .before .before .before .before .before .put-contents .ensures) (c .before .before .before .before .before .before .before .before .before .before .before .before .before .before .before .before .put-u32 .ensures) (c .before .before .before .before .before .before .before .before .before .before .before .before .put-rows .ensures .0) (c .before .before .before .before .before .before .before .before .put-clock .ensures) (c .before .before .before .put-members .ensures),
+      brings-side (a .c) (a .m) (a .n) wide long (pre .few) (pre .many) (pre .within) (pre .one) (all-take _ (a .c .len) (a .c .dots) fits) known (pre .asc) (pre .normal) _ refl (c .before .before .before .before .before .before .before .before .before .before .before .before .put-rows .ensures .1) refl refl,
+      side-long (a .c) (a .m) (a .n) wide long (pre .few) (pre .many) (pre .within) (pre .one),
     )
 
 pub put-side-spec : {M : Type 1} → statement M
