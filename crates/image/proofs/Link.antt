@@ -6,8 +6,8 @@ use mathlib.Core.List.{List, [], _∷_, _++_, map}
 use native.Mathlib.Omega.{arith}
 use native.Mathlib.Nat.{add-zero, zero-add}
 use lib.Dec.{leb, ltb, eqb, T, ltb→lt}
-use lib.ListN.{length, take, drop, getD, replicate, length-map, List·getD-map}
-use lib.Seq.{sets, sets-eq, take-at}
+use lib.ListN.{length, take, getD, replicate, length-map, List·getD-map}
+use lib.Seq.{sets}
 use borrow.Author.Tests.{lt-leb, eq-eqb, ne-eqb}
 use Rattle.tables.specs.Order.{nat-order, nat-lt, lt-nat, gt-lt}
 use Rattle.tables.specs.Table.{pick, get, every, All, Asc, Below, Normal, below-trans}
@@ -35,6 +35,7 @@ use Rattle.layout.specs.Checks.{rows-rise, members-rise, passed}
 use Rattle.fields.specs.Read.{clockRead}
 use Rattle.kills.specs.Lines.{killLines, membersOf, waitRead, waitsOf}
 use Rattle.kills.specs.Laws.{Ordered, kill-numbers}
+use Rattle.kills.proofs.Steps.{taken}
 use Rattle.image.specs.Fits.{within, fits, fitAll}
 use Rattle.layout.specs.Main.{checked}
 use Rattle.image.specs.declared.Image.{Image}
@@ -117,9 +118,6 @@ all-index t s v R d₀ i p (suc n) h =
     (all-index t s v R d₀ (suc i) (rowEnd s p) n (λ m l. let e : suc i + m ≡ i + suc m = omega arith in rw e (h (suc m) (omega arith))))
 
 -- ---- what is read at the places is what stands there
-
-taken : (z xs : List ℕ) (n : ℕ) → length xs ≡ n → n ≤ length z → take n (sets z 0 xs) ≡ xs
-taken z xs n e h = rw (sets-eq xs z 0 (omega arith)) (take-at xs (drop (0 + length xs) z) n e)
 
 members-are : (s : List ℕ) (p n : ℕ) → map (λ q. u32At s q) (placesAt s p n) ≡ map (λ e. e .member) (rowsAt s p n)
 unfolding startsAt listAt rowIn

@@ -1,7 +1,7 @@
 -- One turn of the walk of an entry's clock along v, and of the loop over entries; the tests of the contents.
 use Prim.Native.Nat.{ℕ, zero, suc, _+_, _-_, _*_, _≤_, _<_}
 use mathlib.Core.Path.{_≡_, refl, sym, ap, ap₂, _∙_}
-use mathlib.Core.Bool.{Bool, true, false, not, _&&_, and-false, false≢true}
+use mathlib.Core.Bool.{Bool, true, false, _&&_, and-false}
 use mathlib.Core.List.{List, [], _∷_}
 use native.Mathlib.Omega.{arith}
 use native.Mathlib.Nat.{add-zero}
@@ -21,7 +21,7 @@ use Rattle.layout.specs.Fields.{u16At, u32At, u64At}
 use Rattle.layout.specs.Clock.{dotIn, dotAt, dotsAt, clockIn, clockAt}
 use Rattle.layout.specs.Good.{goodContentsIn, goodContents}
 use Rattle.fields.proofs.Steps.{list-step, list-end}
-use Rattle.image.specs.Fits.{within, refused, fits, fitAll}
+use Rattle.image.specs.Fits.{within, stepOf, fits, fitAll}
 
 -- ---- the contents
 
@@ -66,25 +66,29 @@ module _ (s : List ℕ) where
 
 -- ---- one dot
 
-not-lt : (a b : ℕ) → not (ltb a b) ≡ leb b a
-not-lt a b = by-lt a b (λ h. rw (lt-ltb a b h, lt-leb b a h)) (λ h. rw (le-ltb a b h, le-leb b a h))
-
 module _ (s : List ℕ) (p : ℕ) (d : Dot) (line : ℕ) where
-  pub refused-line : u32At s p ≡ actorOf d → (c : ℕ) → c ≡ u64At s (p + 4) → c ≤ d .counter → leb c line ≡ refused s p d line
-  unfolding refused
-  refused-line e c f h =
-      let k : u64At s (p + 4) ≤ d .counter = omega arith in
-      rw (f, eq-eqb (u32At s p) (actorOf d) e, le-leb (u64At s (p + 4)) (d .counter) k) (sym (not-lt line (u64At s (p + 4))))
+  module _ (e : u32At s p ≡ actorOf d) (c : ℕ) (f : c ≡ u64At s (p + 4)) where
+    pub step-above : d .counter < c → _≡_ {A = ℕ} 2 (stepOf s p d line)
+    unfolding stepOf
+    step-above h = let k : d .counter < u64At s (p + 4) = omega arith in rw (eq-eqb (u32At s p) (actorOf d) e, lt-leb (u64At s (p + 4)) (d .counter) k)
 
-  pub refused-above : u32At s p ≡ actorOf d → (c : ℕ) → c ≡ u64At s (p + 4) → d .counter < c → true ≡ refused s p d line
-  unfolding refused
-  refused-above e c f h =
-      let k : d .counter < u64At s (p + 4) = omega arith in
-      rw (eq-eqb (u32At s p) (actorOf d) e, lt-leb (u64At s (p + 4)) (d .counter) k)
+    pub step-under : c ≤ d .counter → c ≤ line → _≡_ {A = ℕ} 2 (stepOf s p d line)
+    unfolding stepOf
+    step-under h l =
+        let k : u64At s (p + 4) ≤ d .counter = omega arith in
+        let m : u64At s (p + 4) ≤ line = omega arith in
+        rw (eq-eqb (u32At s p) (actorOf d) e, le-leb (u64At s (p + 4)) (d .counter) k, le-ltb line (u64At s (p + 4)) m)
 
-  pub refused-other : (u32At s p ≡ actorOf d → ⊥) → false ≡ refused s p d line
-  unfolding refused
-  refused-other n = rw (ne-eqb (u32At s p) (actorOf d) n)
+    pub step-within : c ≤ d .counter → line < c → _≡_ {A = ℕ} 1 (stepOf s p d line)
+    unfolding stepOf
+    step-within h l =
+        let k : u64At s (p + 4) ≤ d .counter = omega arith in
+        let m : line < u64At s (p + 4) = omega arith in
+        rw (eq-eqb (u32At s p) (actorOf d) e, le-leb (u64At s (p + 4)) (d .counter) k, lt-ltb line (u64At s (p + 4)) m)
+
+  pub step-other : (u32At s p ≡ actorOf d → ⊥) → _≡_ {A = ℕ} 0 (stepOf s p d line)
+  unfolding stepOf
+  step-other n = rw (ne-eqb (u32At s p) (actorOf d) n)
 
 -- ---- a turn along v
 
@@ -114,26 +118,25 @@ module _ (t s : List ℕ) (v : List Dot) (n i q p left : ℕ) where
       unfolding fits dotIn
       turn = rw (ahead v i n noDot h k, first)
 
-      pub fits-refused : (b : Bool) → b ≡ refused s p d (getD t q 0) → b ≡ true → false ≡ ahead-fits
-      unfolding refused
-      fits-refused b e y = sym (turn ∙ go (eqb (u32At s p) (actorOf d)) (within (u64At s (p + 4)) d (getD t q 0)) (sym e ∙ y))
+      pub fits-refused : (one : ℕ) → one ≡ stepOf s p d (getD t q 0) → one ≡ 2 → false ≡ ahead-fits
+      unfolding stepOf
+      fits-refused one e y = sym (turn ∙ go (eqb (u32At s p) (actorOf d)) (within (u64At s (p + 4)) d (getD t q 0)) (sym e ∙ y))
         where
-          go : (a w : Bool) → (a && not w) ≡ true → pick a (w && fits t (suc q) (slice (i + 1) n v) (dotsAt s (p + 12) (left - 1))) (fits t (suc q) (slice (i + 1) n v) (dotsAt s p left)) ≡ false
-          go true true u = absurd (false≢true u)
+          go : (a w : Bool) → _≡_ {A = ℕ} (pick a (pick w 1 2) 0) 2 → pick a (w && fits t (suc q) (slice (i + 1) n v) (dotsAt s (p + 12) (left - 1))) (fits t (suc q) (slice (i + 1) n v) (dotsAt s p left)) ≡ false
+          go true true u = absurd (omega arith)
           go true false u = refl
-          go false w u = absurd (false≢true u)
+          go false w u = absurd (omega arith)
 
-      pub fits-turn : (b : Bool) → b ≡ refused s p d (getD t q 0) → b ≡ false → (one : ℕ) → one ≡ pick (eqb (u32At s p) (actorOf d)) 1 0
-          → fits t (q + 1) (slice (i + 1) n v) (dotsAt s (p + 12 * one) (left - one)) ≡ ahead-fits
-      unfolding refused
-      fits-turn b e y one f = sym (turn ∙ go (eqb (u32At s p) (actorOf d)) (within (u64At s (p + 4)) d (getD t q 0)) (sym e ∙ y) f)
+      pub fits-turn : (one : ℕ) → one ≡ stepOf s p d (getD t q 0) → (one ≡ 2 → ⊥) → fits t (q + 1) (slice (i + 1) n v) (dotsAt s (p + 12 * one) (left - one)) ≡ ahead-fits
+      unfolding stepOf
+      fits-turn one e y = sym (turn ∙ go (eqb (u32At s p) (actorOf d)) (within (u64At s (p + 4)) d (getD t q 0)) e)
         where
-          go : (a w : Bool) → (a && not w) ≡ false → one ≡ pick a 1 0
+          go : (a w : Bool) → one ≡ pick a (pick w 1 2) 0
               → pick a (w && fits t (suc q) (slice (i + 1) n v) (dotsAt s (p + 12) (left - 1))) (fits t (suc q) (slice (i + 1) n v) (dotsAt s p left))
               ≡ fits t (q + 1) (slice (i + 1) n v) (dotsAt s (p + 12 * one) (left - one))
-          go true true u g = let x : p + 12 * one ≡ p + 12 = omega arith in rw (x, g, add-one q)
-          go true false u g = absurd (false≢true (sym u))
-          go false w u g = let x : p + 12 * one ≡ p = omega arith in let z : left - one ≡ left = omega arith in rw (x, z, add-one q)
+          go true true g = let x : p + 12 * one ≡ p + 12 = omega arith in rw (x, g, add-one q)
+          go true false g = absurd (y g)
+          go false w g = let x : p + 12 * one ≡ p = omega arith in let z : left - one ≡ left = omega arith in rw (x, z, add-one q)
 
 -- ---- a turn over the entries
 

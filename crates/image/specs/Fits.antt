@@ -1,6 +1,6 @@
 -- An entry's clock against the replica's clock v and the kill line of its member, in one walk along v.
 use Prim.Native.Nat.{ℕ, zero, suc, _+_, _*_}
-use mathlib.Core.Bool.{Bool, true, false, not, _&&_}
+use mathlib.Core.Bool.{Bool, true, false, _&&_}
 use mathlib.Core.List.{List, [], _∷_}
 use lib.Dec.{eqb, leb, ltb}
 use lib.ListN.{getD}
@@ -15,9 +15,9 @@ use Rattle.layout.specs.Clock.{clockAt}
 abbrev pub within : ℕ → Dot → ℕ → Bool
 within c d line = leb c (d .counter) && ltb line c
 
--- the dot at p is of d's actor, and not within
-unfoldable pub refused : List ℕ → ℕ → Dot → ℕ → Bool
-refused s p d line = eqb (u32At s p) (actorOf d) && not (within (u64At s (p + 4)) d line)
+-- the dot at p: of another actor than d, within, or not
+unfoldable pub stepOf : List ℕ → ℕ → Dot → ℕ → ℕ
+stepOf s p d line = pick (eqb (u32At s p) (actorOf d)) (pick (within (u64At s (p + 4)) d line) 1 2) 0
 
 -- each dot of a clock is one of v's actors, and within; number q of the table is the line's for the first actor
 unfoldable pub fits : List ℕ → ℕ → Clock → Clock → Bool

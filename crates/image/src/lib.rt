@@ -11,7 +11,7 @@ ghost use Rattle.layout.specs.Fields.{u32At, u64At};
 ghost use Rattle.layout.specs.Clock.{clockAt};
 ghost use Rattle.layout.specs.Good.{goodContents};
 ghost use Rattle.image.specs.Image.{checkImage, partsImage, noImage, checkCall, clockCall};
-ghost use Rattle.image.specs.Fits.{refused, fits, fitAll};
+ghost use Rattle.image.specs.Fits.{stepOf, fits, fitAll};
 use clocks::VClock;
 use dots::Dot;
 use fields::clock_at;
@@ -123,24 +123,20 @@ fn parts(s: &[u8]) -> Image
     }
 }
 
-// Whether the dot at a place is of the actor of d, and its counter is above d's or not above the line.
-fn refuses(s: &[u8], p: usize, d: Dot, line: u64) -> bool
+// The dot at a place against d and the line: 0 where it is of another actor, 1 where d covers it and it is above the line, 2 where not.
+fn step(s: &[u8], p: usize, d: Dot, line: u64) -> usize
     requires { ⌜ p < 281474976710656 ⌝ }
-    ensures { λ r. ⌜ r ≡ refused (now (s .entry)) p d line ⌝ }
+    ensures { λ r. ⌜ (r ≡ stepOf (now (s .entry)) p d line) × (r ≤ 2) ⌝ }
 {
     if u32_at(s, p) == d.actor.0 {
         let c = u64_at(s, p + 4);
-        if c <= d.counter { c <= line } else { true }
+        if d.counter < c {
+            return 2;
+        }
+        if c <= line { 2 } else { 1 }
     } else {
-        false
+        0
     }
-}
-
-// 1 where the dot at a place is of the actor, and 0 where not.
-fn step(s: &[u8], p: usize, actor: u32) -> usize
-    ensures { λ r. ⌜ (r ≡ pick (eqb (u32At (now (s .entry)) p) actor) 1 0) × (r ≤ 1) ⌝ }
-{
-    if u32_at(s, p) == actor { 1 } else { 0 }
 }
 
 // Whether v covers the clock at a place, and each of its dots is above its number of the line from `from` on: one walk along v.
@@ -156,11 +152,10 @@ fn row_fits(s: &[u8], at: usize, v: VClock, lines: &[u64; 1024], from: usize) ->
         if left == 0 {
             return true;
         }
-        let d = v.dots[i];
-        if refuses(s, p, d, lines[from + i]) {
+        let one = step(s, p, v.dots[i], lines[from + i]);
+        if one == 2 {
             return false;
         }
-        let one = step(s, p, d.actor.0);
         p += 12 * one;
         left -= one;
         i += 1;

@@ -1,10 +1,16 @@
--- What skipping the rows below a key tells.
+-- What skipping the rows below a key tells, and what raising the lines of one member.
 use Prim.Native.Nat.{ℕ, _≤_}
 use mathlib.Core.Path.{_≡_}
-use mathlib.Core.List.{List}
+use mathlib.Core.List.{List, _∷_}
+use lib.Seq.{slice}
 use Rattle.tables.specs.Zip.{Rows}
-use Rattle.kills.specs.Lines.{reach}
+use Rattle.replica.specs.Replica.{memberRows}
+use Rattle.kills.specs.Lines.{reach, along, raised}
 
 pub record Skipped (N : Rows) (all rest : List (N .Row)) (k left r : ℕ) : Type 0 where
   pub le : r ≤ left
   pub is : reach N k all ≡ rest
+
+-- from line i on: what is left to raise by m and any members after it is, from line r on, what those after it raise
+pub record UpTo (ms : List ℕ) (n m : ℕ) (line : List ℕ) (i : ℕ) (out : List ℕ) (r : ℕ) (out′ : List ℕ) : Type 0 where
+  pub same : (rs : List ℕ) → raised out′ r (along memberRows (slice r n ms) rs) line ≡ raised out i (along memberRows (slice i n ms) (m ∷ rs)) line

@@ -14,9 +14,11 @@ ghost use Rattle.layout.specs.Fields.{u32At};
 ghost use Rattle.layout.specs.Clock.{dotsAt};
 ghost use Rattle.layout.specs.Rows.{membersAt};
 ghost use Rattle.fields.specs.Read.{clockRead};
-ghost use Rattle.kills.specs.Lines.{along, lineOf, raiseFrom, raised, killLines, membersOf, waitsOf};
-ghost use Rattle.kills.specs.Posts.{Skipped};
+ghost use Rattle.kills.specs.Lines.{along, numbers, lineOf, raiseFrom, raised, killLines, membersOf, waitsOf};
+ghost use Rattle.kills.specs.Posts.{Skipped, UpTo};
 use clocks::VClock;
+use dots::Actor;
+use dots::Dot;
 use fields::u32_at;
 use fields::u64_at;
 
@@ -31,22 +33,6 @@ fn at_most(n: usize, most: usize) -> usize
     ensures { λ r. ⌜ (r ≡ min n most) × (r ≤ most) × (r ≤ n) ⌝ }
 {
     if n < most { n } else { most }
-}
-
-// How many of the members from a place on are below m.
-fn skip_members(t: &[u8], p: usize, left: usize, m: u32) -> usize
-    requires { ⌜ p + 4 * left < 281474976710656 ⌝ }
-    ensures { λ r. ⌜ Skipped memberRows (membersAt (now (t .entry)) p left) (membersAt (now (t .entry)) (p + 4 * r) (left - r)) m left r ⌝ }
-{
-    let mut i: usize = 0;
-    while i < left {
-        if u32_at(t, p + 4 * i) < m {
-            i += 1;
-        } else {
-            return i;
-        }
-    }
-    i
 }
 
 // How many of the dots from a place on have an actor below a.
@@ -65,16 +51,6 @@ fn skip_dots(t: &[u8], p: usize, left: usize, a: u32) -> usize
     i
 }
 
-// Whether the first of the members from a place on is m.
-fn named(t: &[u8], p: usize, left: usize, m: u32) -> bool
-    ensures { λ r. ⌜ r ≡ said memberRows m (membersAt (now (t .entry)) p left) ⌝ }
-{
-    if left == 0 {
-        return false;
-    }
-    u32_at(t, p) == m
-}
-
 // The counter of the first of the dots from a place on, if its actor is a.
 fn counted(t: &[u8], p: usize, left: usize, a: u32) -> u64
     requires { ⌜ p < 281474976710656 ⌝ }
@@ -90,13 +66,16 @@ fn counted(t: &[u8], p: usize, left: usize, a: u32) -> u64
     }
 }
 
-// The counters of the clock at a place, along the actors of v.
-fn line_at(t: &[u8], at: usize, v: VClock) -> [u64; 16]
+// The actors of v, each with its counter in the clock at a place.
+fn line_at(t: &[u8], at: usize, v: VClock) -> [Dot; 16]
     requires { ⌜ at < 4294967296 ⌝ }
-    ensures { λ r. ⌜ r ≡ lineOf (dotsOf v) (clockRead (now (t .entry)) at) ⌝ }
+    ensures { λ r. ⌜ numbers r ≡ lineOf (dotsOf v) (clockRead (now (t .entry)) at) ⌝ }
 {
     let n = at_most(v.len, 16);
-    let mut line = [0u64; 16];
+    let mut line = [Dot {
+        actor: Actor(0),
+        counter: 0,
+    }; 16];
     let mut p = at + 4;
     let mut left = at_most(wide(u32_at(t, at)), 16);
     let mut i: usize = 0;
@@ -105,7 +84,10 @@ fn line_at(t: &[u8], at: usize, v: VClock) -> [u64; 16]
         let r = skip_dots(t, p, left, a);
         p += 12 * r;
         left -= r;
-        line[i] = counted(t, p, left, a);
+        line[i] = Dot {
+            actor: Actor(a),
+            counter: counted(t, p, left, a),
+        };
         i += 1;
     }
     line
@@ -117,52 +99,85 @@ fn larger(x: u64, y: u64) -> u64
     if x < y { y } else { x }
 }
 
-// Raises line i of the table to a line.
-fn raise_line(out: &mut [u64; 1024], i: usize, line: [u64; 16])
+// Raises line i of the table to a line. It takes dots, since bare numbers would be compared two at a time, which is slower.
+fn raise_line(out: &mut [u64; 1024], i: usize, line: [Dot; 16])
     requires { ⌜ i < 64 ⌝ }
-    ensures { λ _. ⌜ now (out .exit) ≡ raiseFrom (now (out .entry)) (16 * i) line ⌝ }
+    ensures { λ _. ⌜ now (out .exit) ≡ raiseFrom (now (out .entry)) (16 * i) (numbers line) ⌝ }
 {
     let mut j: usize = 0;
     while j < 16 {
-        out[16 * i + j] = larger(out[16 * i + j], line[j]);
+        out[16 * i + j] = larger(out[16 * i + j], line[j].counter);
         j += 1;
     }
 }
 
 // The same, where asked.
-fn raise(out: &mut [u64; 1024], i: usize, line: [u64; 16], asked: bool)
+fn raise(out: &mut [u64; 1024], i: usize, line: [Dot; 16], asked: bool)
     requires { ⌜ i < 64 ⌝ }
-    ensures { λ _. ⌜ now (out .exit) ≡ pick asked (raiseFrom (now (out .entry)) (16 * i) line) (now (out .entry)) ⌝ }
+    ensures { λ _. ⌜ now (out .exit) ≡ pick asked (raiseFrom (now (out .entry)) (16 * i) (numbers line)) (now (out .entry)) ⌝ }
 {
     if asked {
         raise_line(out, i, line);
     }
 }
 
-// Raises the lines of the n entries whose members stand, ascending, after their count at a place.
+// From line i on, raises those of the member m, up to the first member above m, whose place is the answer.
+fn raise_same(
+    ms: &[u32; 64],
+    from: usize,
+    n: usize,
+    m: u32,
+    line: [Dot; 16],
+    out: &mut [u64; 1024],
+) -> usize
+    requires { ⌜ (n ≤ 64) × (length (now ms) ≡ 64) ⌝ }
+    ensures { λ r. ⌜ UpTo (now (ms .entry)) n m (numbers line) from (now (out .entry)) r (now (out .exit)) ⌝ }
+{
+    let mut i = from;
+    while i < n {
+        if m < ms[i] {
+            return i;
+        }
+        raise(out, i, line, m == ms[i]);
+        i += 1;
+    }
+    i
+}
+
+// Raises the lines of those of the n members that stand after their count at a place: one walk along both.
 fn raise_named(
-    s: &[u8],
-    places: [u32; 64],
+    ms: &[u32; 64],
     n: usize,
     t: &[u8],
     at: usize,
-    line: [u64; 16],
+    line: [Dot; 16],
     out: &mut [u64; 1024],
 )
-    requires { ⌜ (n ≤ 64) × (at < 70368744177664) ⌝ }
-    ensures { λ _. ⌜ now (out .exit) ≡ raised (now (out .entry)) 0 (along memberRows (membersOf (now (s .entry)) places n) (membersAt (now (t .entry)) (at + 4) (min (u32At (now (t .entry)) at) 64))) line ⌝ }
+    requires { ⌜ (n ≤ 64) × (length (now ms) ≡ 64) × (at < 70368744177664) ⌝ }
+    ensures { λ _. ⌜ now (out .exit) ≡ raised (now (out .entry)) 0 (along memberRows (take n (now (ms .entry))) (membersAt (now (t .entry)) (at + 4) (min (u32At (now (t .entry)) at) 64))) (numbers line) ⌝ }
 {
     let mut p = at + 4;
     let mut left = at_most(wide(u32_at(t, at)), 64);
     let mut i: usize = 0;
+    while 0 < left {
+        i = raise_same(ms, i, n, u32_at(t, p), line, out);
+        p += 4;
+        left -= 1;
+    }
+}
+
+// The members of the n entries at places.
+fn members_at(s: &[u8], places: [u32; 64], n: usize) -> [u32; 64]
+    requires { ⌜ n ≤ 64 ⌝ }
+    ensures { λ r. ⌜ take n r ≡ membersOf (now (s .entry)) places n ⌝ }
+{
+    let mut ms = [0u32; 64];
+    let mut i: usize = 0;
     while i < n {
-        let m = u32_at(s, wide(places[i]));
-        let r = skip_members(t, p, left, m);
-        p += 4 * r;
-        left -= r;
-        raise(out, i, line, named(t, p, left, m));
+        ms[i] = u32_at(s, wide(places[i]));
         i += 1;
     }
+    ms
 }
 
 // Raises line i, 16 numbers from 16 i on, of the i-th of the n entries at places of s, by each of the k waiting removes at places of t
@@ -181,12 +196,13 @@ pub fn kill_lines(
 {
     let entries = at_most(n, 64);
     let number = at_most(k, 16);
+    let ms = members_at(s, places, entries);
     let mut i: usize = 0;
     while i < number {
         let q = wide(waits[i]);
         let line = line_at(t, q, v);
         let members = q + 4 + 12 * wide(u32_at(t, q));
-        raise_named(s, places, entries, t, members, line, out);
+        raise_named(&ms, entries, t, members, line, out);
         i += 1;
     }
 }

@@ -6,7 +6,9 @@ use mathlib.Core.List.{List, [], _∷_}
 use native.Mathlib.Omega.{arith}
 use native.Mathlib.Numerals.{add-one}
 use lib.Dec.{leb, ltb, eqb, isEq}
-use lib.ListN.{length}
+use lib.ListN.{length, getD, take, drop}
+use lib.Seq.{getD-take, getD-drop}
+use native.Mathlib.Nat.{add-zero, add-assoc}
 use borrow.Author.Tests.{le-leb, lt-leb, lt-ltb, le-ltb, leb-true}
 use Rattle.tables.specs.Order.{next, self, lt-gt, gt-lt, nat-order, nat-lt, lt-nat, lt≢gt, lt≢eq, gt≢eq}
 use Rattle.tables.specs.Table.{pick}
@@ -25,6 +27,29 @@ use Rattle.layout.specs.Good.{risingMembers, goodMembersIn, goodMembers, goodCl
 use Rattle.layout.specs.Kit.{Stands, stands}
 use Rattle.fields.proofs.Steps.{list-step, list-end, u32-past}
 use Rattle.scan.specs.Scan.{clockEnds, membersEnd, rowEnds, waitEnds}
+
+-- ---- numbers in a part of the bytes
+
+module _ (s : List ℕ) (at w : ℕ) where
+  abbrev part : List ℕ
+  part = take (at + w - at) (drop at s)
+
+  part-byte : (k : ℕ) → k < w → getD part k 0 ≡ getD s (at + k) 0
+  part-byte k h = getD-take (at + w - at) (drop at s) k 0 (omega arith) ∙ getD-drop at s k 0
+
+  part-u32 : (k : ℕ) → k + 4 ≤ w → u32At part k ≡ u32At s (at + k)
+  unfolding u32At
+  part-u32 k h = rw (part-byte k (omega arith), part-byte (k + 1) (omega arith), part-byte (k + 2) (omega arith), part-byte (k + 3) (omega arith), ← (add-assoc at k 1), ← (add-assoc at k 2), ← (add-assoc at k 3))
+
+  first-u32 : 4 ≤ w → u32At part 0 ≡ u32At s at
+  first-u32 h = part-u32 0 h ∙ ap (u32At s) (add-zero at)
+
+pub u32-of-part : (s : List ℕ) (at : ℕ) → u32At (take (at + 4 - at) (drop at s)) 0 ≡ u32At s at
+u32-of-part s at = first-u32 s at 4 (omega arith)
+
+pub u64-of-part : (s : List ℕ) (at : ℕ) → u64At (take (at + 8 - at) (drop at s)) 0 ≡ u64At s at
+unfolding u64At
+u64-of-part s at = ap₂ (λ (x : ℕ) (y : ℕ). x + y * 4294967296) (first-u32 s at 8 (omega arith)) (part-u32 s at 8 4 (omega arith))
 
 -- ---- dots and members that rise
 

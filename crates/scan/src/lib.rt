@@ -8,6 +8,7 @@ ghost use Rattle.tables.specs.Ascending.{isLt};
 ghost use Rattle.dots.specs.Dot.{cmpDot};
 ghost use Rattle.dots.specs.Clock.{cmpClock};
 ghost use Rattle.dots.specs.Rising.{rising};
+ghost use Rattle.layout.specs.Fields.{u32At, u64At};
 ghost use Rattle.layout.specs.Clock.{dotAt, dotsAt, clockAt};
 ghost use Rattle.layout.specs.Rows.{membersAt};
 ghost use Rattle.layout.specs.Good.{risingMembers};
@@ -35,6 +36,22 @@ fn wide(x: u32) -> usize
     x as usize
 }
 
+// The 32-bit number at a place that lies inside: of a part of known length, nothing is tested when the code runs.
+fn u32_in(s: &[u8], at: usize) -> u32
+    requires { ⌜ at + 4 ≤ length (now s) ⌝ }
+    ensures { λ r. ⌜ r ≡ u32At (now (s .entry)) at ⌝ }
+{
+    u32_at(&s[at..at + 4], 0)
+}
+
+// The 64-bit number there.
+fn u64_in(s: &[u8], at: usize) -> u64
+    requires { ⌜ at + 8 ≤ length (now s) ⌝ }
+    ensures { λ r. ⌜ r ≡ u64At (now (s .entry)) at ⌝ }
+{
+    u64_at(&s[at..at + 8], 0)
+}
+
 // Whether the dots from a place on rise, with no zero counter.
 fn dots_rise(s: &[u8], from: usize, count: usize) -> bool
     requires { ⌜ from + 12 * count ≤ length (now s) ⌝ }
@@ -44,11 +61,11 @@ fn dots_rise(s: &[u8], from: usize, count: usize) -> bool
     let mut left = count;
     let mut low: usize = 0;
     while 0 < left {
-        let actor = wide(u32_at(s, p));
+        let actor = wide(u32_in(s, p));
         if actor < low {
             return false;
         }
-        if u64_at(s, p + 4) == 0 {
+        if u64_in(s, p + 4) == 0 {
             return false;
         }
         low = actor + 1;
@@ -67,7 +84,7 @@ fn members_rise(s: &[u8], from: usize, count: usize) -> bool
     let mut left = count;
     let mut low: usize = 0;
     while 0 < left {
-        let member = wide(u32_at(s, p));
+        let member = wide(u32_in(s, p));
         if member < low {
             return false;
         }

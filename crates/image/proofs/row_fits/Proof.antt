@@ -43,20 +43,21 @@ returns-2 c =
     let n = a .t3 .len in
     let long : length (a .t3 .dots) ≡ 16 = search mapped in
     let e : c .before .before .before .before .before .before .before .wide .result ≡ u32At s (a .at) = c .before .before .before .before .before .before .before .wide .ensures .0 ∙ c .before .before .before .before .before .before .before .before .u32-at .ensures in
-    fits-refused (a .lines .now) s (a .t3 .dots) n (l .i) (a .from + l .i) (l .p) (l .left) (omega arith) (omega arith) (omega arith) _ (c .before .refuses .ensures) (c .if2 .taken)
+    fits-refused (a .lines .now) s (a .t3 .dots) n (l .i) (a .from + l .i) (l .p) (l .left) (omega arith) (omega arith) (omega arith) _ (c .before .step .ensures .0) (c .if2 .taken)
     ∙ l .inv .2 ∙ ap (λ (k : ℕ). fits (a .lines .now) (a .from) (take n (a .t3 .dots)) (dotsAt s (a .at + 4) k)) e
 
 loop-again : tie.Need-loop-again Inv-loop μ-loop
 loop-again c =
-    let a = c .before .before .before .before .before .before .before .before .before .before .before .args in
-    let l = c .before .before .before .before .before .before .before .loop in
+    let a = c .before .before .before .before .before .before .before .before .before .before .args in
+    let l = c .before .before .before .before .before .before .loop in
     let s = a .s .now in
     let n = a .t3 .len in
     let long : length (a .t3 .dots) ≡ 16 = search mapped in
+    let few = c .before .step .ensures .1 in
     let q : a .from + (l .i + 1) ≡ a .from + l .i + 1 = omega arith in (
       search needs,
-      omega (arith, c .step .ensures .1),
-      rw q (fits-turn (a .lines .now) s (a .t3 .dots) n (l .i) (a .from + l .i) (l .p) (l .left) (omega arith) (omega arith) (omega arith) _ (c .before .before .refuses .ensures) (c .before .if2 .left) _ (c .step .ensures .0) ∙ l .inv .2),
+      omega (arith, few),
+      rw q (fits-turn (a .lines .now) s (a .t3 .dots) n (l .i) (a .from + l .i) (l .p) (l .left) (omega arith) (omega arith) (omega arith) _ (c .before .step .ensures .0) (λ z. omega arith) ∙ l .inv .2),
     )
 
 returns-3 : tie.Need-returns-3 Inv-loop μ-loop
@@ -75,5 +76,5 @@ row-fits-spec =
     tie.close
     (tie.spec Inv-loop μ-loop (λ c. search needs) (λ c κs. search needs) (λ c κs. search needs) loop-holds returns
     (λ c. search needs) (λ c. search needs) (λ c. search needs) (λ c. search needs) (λ c. search needs)
-    (λ c κs. search needs) returns-2 (λ c κs. search needs) (λ c. search needs) (λ c. search needs)
-    (λ c. search needs) (λ c. search needs) (λ c. search needs) loop-again returns-3)
+    (λ c κs. search needs) returns-2 (λ c. search needs) (λ c. search needs) (λ c. search needs) (λ c. search needs)
+    (λ c. search needs) loop-again returns-3)

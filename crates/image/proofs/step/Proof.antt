@@ -1,17 +1,22 @@
-use Rattle.layout.specs.Fields.{u32At}
-use borrow.Author.Tests.{eq-eqb, ne-eqb}
+use Rattle.image.proofs.Steps.{step-above, step-under, step-within, step-other}
 use native.Mathlib.Omega.{arith}
-use mathlib.Core.Path.{_≡_, sym, _∙_}
 use borrow.Author.Needs.{needs}
 use Rattle.image.proofs.step.Statement.{statement}
 use Rattle.image.proofs.step.Tie as tie
 
 returns : tie.Need-returns
-returns c = let a = c .before .before .before .args in (rw (eq-eqb (u32At (a .s .now) (a .p)) (a .actor) (omega arith)), omega arith)
+returns c = let a = c .before .before .before .before .before .before .before .args in (step-above (a .s .now) (a .p) (a .d) (a .line) (omega arith) _ (c .before .before .u64-at .ensures) (omega arith), omega arith)
 
 returns-2 : tie.Need-returns-2
-returns-2 c = let a = c .before .before .before .args in (rw (ne-eqb (u32At (a .s .now) (a .p)) (a .actor) (λ e. omega arith)), omega arith)
+returns-2 c = let a = c .before .before .before .before .before .before .before .before .args in (step-under (a .s .now) (a .p) (a .d) (a .line) (omega arith) _ (c .before .before .before .u64-at .ensures) (omega arith) (omega arith), omega arith)
+
+returns-3 : tie.Need-returns-3
+returns-3 c = let a = c .before .before .before .before .before .before .before .before .args in (step-within (a .s .now) (a .p) (a .d) (a .line) (omega arith) _ (c .before .before .before .u64-at .ensures) (omega arith) (omega arith), omega arith)
+
+returns-4 : tie.Need-returns-4
+returns-4 c = let a = c .before .before .before .before .args in (step-other (a .s .now) (a .p) (a .d) (a .line) (λ e. omega arith), omega arith)
 
 pub step-spec : {M : Type 1} → statement M
-step-spec = tie.close
-    (tie.spec (λ c κs. search needs) returns returns-2)
+step-spec =
+    tie.close
+    (tie.spec (λ c κs. search needs) (λ c. search needs) (λ c κs. search needs) returns returns-2 returns-3 returns-4)

@@ -1,5 +1,5 @@
 use Rattle.kills.proofs.Steps.{line-turn, line-end, take-most}
-use Rattle.kills.specs.Lines.{along, lineOf}
+use Rattle.kills.specs.Lines.{along, numbers, lineOf}
 use Rattle.fields.specs.Read.{clockRead}
 use Rattle.layout.specs.Clock.{dotsAt}
 use Rattle.layout.specs.Fields.{u32At}
@@ -18,7 +18,7 @@ use Rattle.kills.proofs.line_at.Tie as tie
 abbrev Inv-loop : tie.InvT-loop
 Inv-loop t at v n line₀ p₀ left₀ i₀ line p left i =
     (i ≤ n) × (n ≤ 16) × (p + 12 * left ≤ at + 196) × (length line ≡ 16)
-    × (sets line i (along dots (map (λ d. actorOf d) (slice i n (v .dots))) (dotsAt t p left)) ≡ sets line₀ 0 (along dots (map (λ d. actorOf d) (take n (v .dots))) (dotsAt t p₀ left₀)))
+    × (sets (numbers line) i (along dots (map (λ d. actorOf d) (slice i n (v .dots))) (dotsAt t p left)) ≡ sets (numbers line₀) 0 (along dots (map (λ d. actorOf d) (take n (v .dots))) (dotsAt t p₀ left₀)))
 
 abbrev μ-loop : tie.MeasureT-loop
 μ-loop t at v n line₀ p₀ left₀ i₀ line p left i = n - i
@@ -44,7 +44,7 @@ returns c =
     let long : length (a .t3 .dots) ≡ 16 = search mapped in
     let e1 = take-most (a .t3 .dots) (a .t3 .len) 16 n long (c .before .before .before .before .before .at-most .ensures .0) in
     let e2 : c .before .before .at-most2 .result ≡ min (u32At (a .t .now) (a .at)) 16 = omega (arith, c .before .before .at-most2 .ensures .0, c .before .before .before .wide .ensures .0, c .before .before .before .before .u32-at .ensures) in
-    sym (line-end (a .t3 .dots) n (l .i) (l .line) (dotsAt (a .t .now) (l .p) (l .left)) (omega arith)) ∙ l .inv .4
+    sym (line-end (a .t3 .dots) n (l .i) (numbers (l .line)) (dotsAt (a .t .now) (l .p) (l .left)) (omega arith)) ∙ l .inv .4
     ∙ (λ j. sets (replicate 16 0) 0 (along dots (map (λ d. actorOf d) (e1 j)) (dotsAt (a .t .now) (a .at + 4) (e2 j))))
 
 pub line-at-spec : {M : Type 1} → statement M
