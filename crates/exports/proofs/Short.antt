@@ -1,20 +1,25 @@
 -- Every length and count fits the lower half.
 use Prim.Native.Nat.{ℕ, _+_, _*_, _≤_, _<_, min}
 use mathlib.Core.Path.{_≡_, refl, sym, ap, _∙_}
-use mathlib.Core.Bool.{Bool, true, false, not, false≢true}
+use mathlib.Core.Bool.{Bool, true, false, not, _&&_, false≢true}
 use mathlib.Core.List.{List, [], _∷_}
 use native.Mathlib.Omega.{arith}
-use lib.Dec.{T, eqb}
+use lib.Dec.{T, eqb, leb, le→leb}
 use lib.ListN.{length, length-map, length-take}
 use borrow.Author.Tests.{eqb-true}
 use Rattle.tables.specs.Table.{pick}
 use Rattle.tables.specs.Refusal.{NoneApplies, firstOf}
 use Rattle.tables.specs.Ascending.{before, ascending}
+use Rattle.tables.specs.Truth.{and-l, and-i}
+use Rattle.dots.specs.declared.Dot.{Dot}
+use Rattle.dots.specs.Clock.{normal}
+use Rattle.dots.specs.ClockLaws.{normal-to}
+use Rattle.dots.specs.Rising.{true-from}
 use Rattle.clocks.specs.declared.VClock.{VClock}
-use Rattle.clocks.specs.VClock.{dotsOf}
+use Rattle.clocks.specs.VClock.{dotsOf, normalised, few, dots-normal}
 use Rattle.replica.specs.Replica.{Replica}
 use Rattle.replica.specs.Limits.{full, Within, wellFormed, unbroken-right, well-formed-from}
-use Rattle.replica.specs.History.{Event, MergeWith, step}
+use Rattle.replica.specs.History.{Event, Apply, MergeWith, Reset, Add as Adds, Remove as Removes, apply, step}
 use Rattle.replica.specs.LimitLaws.{fits, step-well-formed}
 use Rattle.replica.specs.Reads.{read}
 use Rattle.layout.specs.Clock.{encodeClock}
@@ -24,6 +29,8 @@ use Rattle.layout.specs.Main.{at-most, good-formed, empty-length}
 use Rattle.results.specs.declared.Written.{Written}
 use Rattle.results.specs.Call.{Call, numberOf, answered, answerOf, Meets}
 use Rattle.results.specs.Laws.{Orderly, done-exactly}
+use Rattle.operations.specs.declared.Op.the-variants.{Add, Remove}
+use Rattle.operations.specs.Calls.{operated, unfitArguments, applyCall, resetCall}
 use Rattle.merging.specs.Merge.{mergeCall}
 use Rattle.reading.specs.declared.MembersAnswer.{MembersAnswer}
 use Rattle.reading.specs.Calls.{emptyCall, membersRead, readNumber, membersAnswer, readCall, ReadMeets}
@@ -63,6 +70,26 @@ pub merge-short : (a b out after : List ℕ) (w : Written) → Meets full (merge
 unfolding mergeCall ascending before step fits
 merge-short a b = event-short (mergeCall a b) (MergeWith (imageOf b)) (imageOf a) tt refl
     (λ n. (good-formed b (passed (goodImage b) (n .1 .0)), good-formed a (passed (goodImage a) (n .0))))
+
+-- a clock that isn't refused is normal and has at most 16 actors
+fit-clock : (c : VClock) → T (normalised c) → T (normal (dotsOf c) && leb (length (dotsOf c)) 16)
+fit-clock c t =
+    let e = true-from (normalised c) t in
+    let k = few c e in
+    and-i (normal (dotsOf c)) (leb (length (dotsOf c)) 16) (normal-to (dotsOf c) (dots-normal c e)) (le→leb (length (dotsOf c)) 16 (rw length-take (omega arith)))
+
+pub add-short : (s : List ℕ) (d : Dot) (c : VClock) (ms out after : List ℕ) (w : Written) → Meets full (applyCall s (Add d) c ms) out w after → w .len ≤ 18268
+unfolding applyCall unfitArguments operated ascending before step apply fits
+add-short s d c ms = event-short (applyCall s (Add d) c ms) (Apply (Adds d ms)) (imageOf s) tt refl (λ n. (tt, good-formed s (passed (goodImage s) (n .0))))
+
+pub remove-short : (s : List ℕ) (c : VClock) (ms out after : List ℕ) (w : Written) → Meets full (applyCall s Remove c ms) out w after → w .len ≤ 18268
+unfolding applyCall unfitArguments operated ascending before step apply fits
+remove-short s c ms = event-short (applyCall s Remove c ms) (Apply (Removes (dotsOf c) ms)) (imageOf s) tt refl
+    (λ n. (fit-clock c (and-l (normalised c) true (passed (normalised c && true) (n .1 .0))), good-formed s (passed (goodImage s) (n .0))))
+
+pub reset-short : (s : List ℕ) (c : VClock) (out after : List ℕ) (w : Written) → Meets full (resetCall s c) out w after → w .len ≤ 18268
+unfolding resetCall ascending before step fits
+reset-short s c = event-short (resetCall s c) (Reset (dotsOf c)) (imageOf s) tt refl (λ n. (tt, good-formed s (passed (goodImage s) (n .0))))
 
 pub empty-short : (before after : List ℕ) (w : Written) → Meets full emptyCall before w after → w .len ≤ 18268
 unfolding ascending before

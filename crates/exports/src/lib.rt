@@ -5,3 +5,16 @@ mod lent;
 mod reads;
 mod validates;
 mod writes;
+
+pub use reads::gatelichen_check;
+pub use reads::gatelichen_clock;
+pub use reads::gatelichen_contains;
+pub use reads::gatelichen_read;
+pub use validates::gatelichen_validate_add;
+pub use validates::gatelichen_validate_merge;
+pub use validates::gatelichen_validate_remove;
+pub use writes::gatelichen_add;
+pub use writes::gatelichen_empty;
+pub use writes::gatelichen_merge;
+pub use writes::gatelichen_remove;
+pub use writes::gatelichen_reset;
