@@ -6,8 +6,8 @@ use mathlib.Core.Option.{Option}
 use mathlib.Core.List.{List, [], _∷_, map}
 use native.Mathlib.Omega.{arith}
 use lib.Dec.{T, eqb, ltb, leb, le→leb, lt→ltb}
-use lib.ListN.{length, take, drop, replicate, length-take, length-replicate}
-use lib.Seq.{sets, sets-eq, length-sets, take-at}
+use lib.ListN.{length, take, replicate, length-take, length-replicate}
+use lib.Seq.{sets}
 use borrow.Author.Tests.{ltb-false, lt-ltb, le-ltb, le-leb, lt-leb}
 use Rattle.tables.specs.Table.{Normal, Proper, Asc, pick, cons?, all-any, map-id}
 use Rattle.tables.specs.Truth.{and-i}
@@ -65,6 +65,7 @@ use Rattle.merging.specs.Side.{sideOf, SideReady, Brings}
 use Rattle.merging.specs.Apply.{FinishedOf, granted}
 use Rattle.merging.proofs.Link.{held-image, WaitsHeld, held-waits, none-waiting, waits-ready}
 use Rattle.merging.proofs.Results.{result-drafted, refused-meets}
+use Rattle.merging.proofs.SideImage.{part-fits, part-is, part-counted}
 use Rattle.merging.proofs.WaitSteps.{end-ge}
 
 -- ---- the arguments
@@ -170,17 +171,17 @@ module _ (s : List ℕ) (x : Image) (cx : x ≡ checkImage s) (g : x .good ≡ t
     side-room = let a = S .within in let b = S .many in let d = S .few in by-lt 0 n (λ h. let o = S .one h in omega arith) (λ h. omega arith)
 
     module _ (out : List ℕ) (wrote : out ≡ sets (replicate 1584 0) 0 (encode B)) where
+      room : 36 + 20 * n + 12 * c .len + 4 * m .len ≤ length {A = ℕ} (replicate 1584 0)
+      room = rw (length-replicate {A = ℕ} 1584 0) side-room
+
       pub side-fits : 36 + 20 * n + 12 * c .len + 4 * m .len ≤ length out
-      side-fits = let r = side-room in let l = ap length wrote ∙ length-sets (replicate 1584 0) 0 (encode B) ∙ length-replicate {A = ℕ} 1584 0 in omega arith
+      side-fits = part-fits _ (encode B) (replicate 1584 0) out side-len room wrote
 
       pub side-taken : take (36 + 20 * n + 12 * c .len + 4 * m .len) out ≡ encode B
-      side-taken =
-          let l = side-len in let r = side-room in
-          let z : length {A = ℕ} (replicate 1584 0) ≡ 1584 = length-replicate {A = ℕ} 1584 0 in
-          rw (wrote, sets-eq (encode B) (replicate 1584 0) 0 (omega arith)) (take-at (encode B) (drop (0 + length (encode B)) (replicate 1584 0)) (36 + 20 * n + 12 * c .len + 4 * m .len) side-len)
+      side-taken = part-is _ (encode B) (replicate 1584 0) out side-len room wrote
 
       pub side-counted : 36 + 20 * n + 12 * c .len + 4 * m .len ≡ length (take (36 + 20 * n + 12 * c .len + 4 * m .len) out)
-      side-counted = sym (ap length side-taken ∙ side-len)
+      side-counted = part-counted _ (encode B) (replicate 1584 0) out side-len room wrote
 
     side-sound : Sound (record { clock = dotsOf c; members = listOf m })
     side-sound = record {
@@ -222,7 +223,7 @@ module _ (s : List ℕ) (x : Image) (cx : x ≡ checkImage s) (g : x .good ≡ t
             let n : x .waits ≡ waitsCount s = ap (λ (z : Image). z .waits) told in
             record { draft = d; clear = out; body = body; room = room; drafted = rw (eb, Y .image, waits-taken, n) at D; finished = f }
 
-  -- ---- remove
+  -- ---- the listed members
 
   module _ (ms : List ℕ) (few-ms : length ms ≤ 64) (m : Members) (em : m ≡ membersOf ms) where
     list-is : listOf m ≡ setOf ms
@@ -231,12 +232,10 @@ module _ (s : List ℕ) (x : Image) (cx : x ≡ checkImage s) (g : x .good ≡ t
     list-few : m .len ≤ 64
     list-few = rw em (listed-few ms few-ms)
 
-    add-formed : (d : Dot) → broken full (add d ms A) ≡ 0 → T (wellFormed full (add d ms A))
-    unfolding step fits apply
-    add-formed d e = step-well-formed full (Apply (Add d ms)) A tt formed e
-
     list-asc : Asc compare (listOf m)
     list-asc = rw list-is (rw map-id at (set-normal ms .asc))
+
+    -- ---- remove
 
     module _ (c : VClock) (nc : normalised c ≡ true) where
       pub remove-ready : SideReady c m 0
@@ -272,6 +271,10 @@ module _ (s : List ℕ) (x : Image) (cx : x ≡ checkImage s) (g : x .good ≡ t
           removed-clock = removed (dotsOf c) ms A normal-c well .clock-is
 
     -- ---- add
+
+    add-formed : (d : Dot) → broken full (add d ms A) ≡ 0 → T (wellFormed full (add d ms A))
+    unfolding step fits apply
+    add-formed d e = step-well-formed full (Apply (Add d ms)) A tt formed e
 
     module _ (d : Dot) (a : CounterAnswer) (ea : a ≡ getCall (x .clock) (actorOf d)) where
       counter-is : a .counter ≡ count (A .clock) (actorOf d)

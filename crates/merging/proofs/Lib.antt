@@ -2,6 +2,7 @@ pub mod AheadSteps
 pub mod KeepSteps
 pub mod RowSteps
 pub mod SideSteps
+pub mod SideImage
 pub mod SideHeld
 pub mod RowLoop
 pub mod OrderSteps

@@ -6,13 +6,11 @@ use native.Mathlib.Omega.{arith}
 use native.Mathlib.Nat.{zero-add}
 use lib.ListN.{length, take, length-append, length-map, length-take}
 use lib.Seq.{sets, take-take}
-use mir.Val.{WT}
 use Rattle.clocks.proofs.VClock as VClock
 use Rattle.lists.proofs.Members as Members
 use Rattle.tables.specs.Stores.{sets-append}
 use Rattle.tables.specs.Table.{All, Asc, Below, Normal, map-id}
 use Rattle.tables.specs.Zip.{Rise}
-use Rattle.dots.specs.declared.Dot.{Dot}
 use Rattle.dots.specs.Dot.{clocks, dots}
 use Rattle.dots.specs.Clock.{Clock}
 use Rattle.clocks.specs.declared.VClock.{VClock}
@@ -21,16 +19,15 @@ use Rattle.replica.specs.Replica.{Entry, Wait, Replica, entryRows}
 use Rattle.layout.specs.Fields.{u32At, le32, length-le32}
 use Rattle.layout.specs.Fits.{FitsClock, FitsRow, FitMembers, Fits}
 use Rattle.layout.specs.Lists.{listAt, startsAt, bytesOf}
-use Rattle.layout.specs.Clock.{narrow, clockIn, clockEndIn, clockEnd, encodeClockIn, encodeClock}
-use Rattle.layout.specs.Rows.{rowIn, rowAt, rowEnd, rowsAt, encodeRows, encodeWait, encodeWaits, waitIn, waitAtPlace, waitEnd, waitsEnd, memberEnd}
-use Rattle.layout.specs.Image.{contents, contentsOf, rowsFrom, waitsFrom, lengthOf, encodeIn, encode, imageIn, imageOf, entriesStart, entriesCount, waitsStart, waitsCount}
-use Rattle.layout.specs.Parts.{sound-narrow, rowForm, row-laws}
-use Rattle.layout.specs.Form.{length-listAt, span-list}
+use Rattle.layout.specs.Clock.{narrow, clockIn, clockEnd, encodeClockIn, encodeClock}
+use Rattle.layout.specs.Rows.{rowIn, rowAt, rowEnd, rowsAt, encodeRows, encodeWait, encodeWaits, waitIn, waitAtPlace, memberEnd}
+use Rattle.layout.specs.Image.{contents, contentsOf, rowsFrom, waitsFrom, lengthOf, encodeIn, encode, imageIn}
+use Rattle.layout.specs.Parts.{row-laws}
+use Rattle.layout.specs.Form.{length-listAt}
 use Rattle.layout.specs.Kit.{length-clockAt, length-encodeClock, length-encodeRow, length-encodeWait}
-use Rattle.layout.specs.Round.{Readable, length-contents, length-encode, read-back, readable-encode}
+use Rattle.layout.specs.Round.{length-contents, length-encode}
 use Rattle.fields.specs.Read.{clockRead, Put}
 use Rattle.kills.specs.Lines.{membersOf, waitRead, waitsOf}
-use Rattle.kills.specs.Laws.{Ordered}
 use Rattle.lists.specs.declared.Members.{Members}
 use Rattle.lists.specs.Members.{listOf}
 use Rattle.brought.specs.Brought.{countedMembers}
@@ -38,22 +35,7 @@ use Rattle.brought.proofs.Steps.{wait-done}
 use Rattle.changing.specs.Brought.{brought, brought-keys}
 use Rattle.image.specs.declared.Image.{Image}
 use Rattle.merging.specs.Side.{placesOf, sideOf, Brings}
-use Rattle.merging.proofs.WaitSteps.{end-ge}
-
--- ---- numbers of a lent record fit: what owning it tells
-
-pub clock-typed : (n : ℕ) (l : List Dot) → WT (VClock.Laws.the-laws .0 .val ((VClock.the-type .to (record { dots = l; len = n })) .0)) → FitsClock l
-clock-typed n [] w = tt
-clock-typed n (d ∷ l) w = ((w .0 .0 .0 .fits, w .0 .1 .0 .fits), clock-typed n l (w .1))
-
-pub members-typed : (n : ℕ) (l : List ℕ) → WT (Members.Laws.the-laws .0 .val ((Members.the-type .to (record { at = l; len = n })) .0)) → FitMembers l
-members-typed n [] w = tt
-members-typed n (k ∷ l) w = (w .0 .fits, members-typed n l (w .1))
-
-pub all-take : {A : Type 0} (P : A → Type 0) (n : ℕ) (l : List A) → All P l → All P (take n l)
-all-take P zero l h = tt
-all-take P (suc n) [] h = tt
-all-take P (suc n) (x ∷ l) h = (h .0, all-take P n l (h .1))
+use Rattle.merging.proofs.SideImage.{all-take, back, rows-count, waits-count, rows-start, waits-start, brings}
 
 below-take : (k n : ℕ) (l : List ℕ) → Below compare k l → Below compare k (take n l)
 below-take k zero l h = tt
@@ -170,70 +152,23 @@ module _ (c : VClock) (m : Members) (n : ℕ) (wide : length (m .at) ≡ 64) (lo
     fits-side : Fits B
     fits-side = record { clock-fits = tt; entries-fit = rows-fit (dotsOf c) (take n (m .at)) fits (all-take (λ k. k < 2 ^ 32) n (m .at) members-fit); waiting-fit = ((fits, all-take (λ k. k < 2 ^ 32) (m .len) (m .at) members-fit), tt) }
 
-    small : lengthOf narrow B < 2 ^ 32
-    small = let w = whole in omega arith
-
-    back : imageOf s ≡ B
-    back = read-back narrow sound-narrow B fits-side small
-
-    readable : Readable narrow s
-    readable = readable-encode narrow sound-narrow B fits-side small
-
-    no-dots : u32At s 24 ≡ 0
-    unfolding imageIn
-    no-dots = sym (length-clockAt s 24) ∙ ap (λ (A : Replica). length (A .clock)) back
-
-    rows-count : entriesCount s ≡ n
-    unfolding imageIn
-    rows-count = sym (length-listAt rowAt rowEnd s (entriesStart s) (entriesCount s)) ∙ ap (λ (A : Replica). length (A .entries)) back ∙ entries-len
-
-    waits-count : waitsCount s ≡ 1
-    unfolding imageIn
-    waits-count = sym (length-listAt waitAtPlace waitEnd s (waitsStart s) (waitsCount s)) ∙ ap (λ (A : Replica). length (A .waiting)) back
-
-    rows-start : entriesStart s ≡ 28
-    unfolding clockEndIn
-    rows-start = let r = readable .start-ok in let z = no-dots in omega arith
-
-    waits-start : waitsStart s ≡ 28 + 20 * n
-    unfolding imageIn
-    waits-start =
-        readable .waits-start-ok ∙ span-list (rowForm narrow) row-laws s (entriesStart s) (entriesCount s)
-        ∙ ap₂ _+_ rows-start (ap (λ (A : Replica). length (encodeRows (A .entries))) back ∙ rows-end)
+    short : lengthOf narrow B < 65536
+    short = let w = whole in omega arith
 
     rows-are : rowsAt s 28 n ≡ B .entries
     unfolding imageIn
-    rows-are = rw (rows-start, rows-count) at (ap (λ (A : Replica). A .entries) back)
+    rows-are = rw (rows-start B fits-side short ∙ from-rows, rows-count B fits-side short ∙ entries-len) at (ap (λ (A : Replica). A .entries) (back B fits-side short))
 
     wait-is : waitAtPlace s (28 + 20 * n) ≡ record { clock = dotsOf c; members = listOf m }
     unfolding imageIn listAt
-    wait-is = let e : waitAtPlace s (28 + 20 * n) ∷ [] ≡ B .waiting = rw (waits-start, waits-count) at (ap (λ (A : Replica). A .waiting) back) in cc
+    wait-is = let e : waitAtPlace s (28 + 20 * n) ∷ [] ≡ B .waiting = rw (waits-start B fits-side short ∙ from-waits, waits-count B fits-side short) at (ap (λ (A : Replica). A .waiting) (back B fits-side short)) in cc
 
-    edge : waitsEnd s (waitsStart s) (waitsCount s) < 65536
-    edge = let r = readable .end-ok in let l = length-encode narrow B in let w = whole in omega arith
-
-    rise : Rise entryRows (imageOf s .entries)
-    rise = rw (back, brought-keys (dotsOf c) (take n (m .at))) (subst (Asc compare) (take-take n (m .len) (m .at) within) (asc-take n (listOf m) asc))
-
-    in-order : All Ordered (imageOf s .waiting)
-    in-order = rw back (record { clock-asc = normal .asc; members-asc = rw map-id asc }, tt)
-
-    members-are : map (λ q. u32At s q) (placesOf n) ≡ map (λ e. e .member) (imageOf s .entries)
-    members-are = rw back (members-at s (dotsOf c) n 28 (take n (m .at)) (λ l. clock-len ∙ one l) rows-are ∙ sym (brought-keys (dotsOf c) (take n (m .at))))
+    rise : Rise entryRows (B .entries)
+    rise = rw (brought-keys (dotsOf c) (take n (m .at))) (subst (Asc compare) (take-take n (m .len) (m .at) within) (asc-take n (listOf m) asc))
 
     pub brings-side : (y : Image) → y .entries ≡ n → take n (y .places) ≡ placesOf n → y .waits ≡ 1 → take 1 (y .starts) ≡ (28 + 20 * n) ∷ [] → Brings B s y
     unfolding membersOf waitsOf
-    brings-side y en pn wn sn = record {
-      image = back;
-      edge = edge;
-      held = record {
-        clock-few = let z = no-dots in omega arith;
-        number = en ∙ sym rows-count;
-        few = omega arith;
-        edge = let e = edge in let r = readable .waits-start-ok in let g = end-ge s (waitsStart s) (waitsCount s) in omega arith;
-        rise = rise;
-        members = rw (en, pn) members-are;
-        waiting = rw (wn, sn, back) (ap (λ (w : Wait). w ∷ []) (read-wait s (28 + 20 * n) (record { clock = dotsOf c; members = listOf m }) wait-is (let l = clock-len in omega arith) (let l = list-len in omega arith)));
-        ordered = in-order;
-      };
-    }
+    brings-side y en pn wn sn =
+        brings B fits-side short (omega arith) (rw entries-len (omega arith)) rise (record { clock-asc = normal .asc; members-asc = rw map-id asc }, tt) y (en ∙ sym entries-len)
+        (rw (en, pn) (members-at s (dotsOf c) n 28 (take n (m .at)) (λ l. clock-len ∙ one l) rows-are ∙ sym (brought-keys (dotsOf c) (take n (m .at)))))
+        (rw (wn, sn) (ap (λ (w : Wait). w ∷ []) (read-wait s (28 + 20 * n) (record { clock = dotsOf c; members = listOf m }) wait-is (let l = clock-len in omega arith) (let l = list-len in omega arith))))

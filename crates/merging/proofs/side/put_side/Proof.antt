@@ -2,7 +2,8 @@ use mathlib.Core.Path.{_≡_, refl}
 use lib.ListN.{length}
 use Rattle.clocks.proofs.Steps.{mapped}
 use Rattle.layout.specs.Fits.{FitsClock, FitMembers}
-use Rattle.merging.proofs.SideHeld.{clock-typed, members-typed, all-take, side-long, side-bytes, brings-side}
+use Rattle.merging.proofs.SideImage.{clock-typed, members-typed, all-take}
+use Rattle.merging.proofs.SideHeld.{side-long, side-bytes, brings-side}
 use borrow.Author.Needs.{needs}
 use Rattle.merging.proofs.side.put_side.Statement.{statement}
 use Rattle.merging.proofs.side.put_side.Tie as tie
