@@ -118,6 +118,12 @@ pub fn validation(w: &[u8], v: OpValidation) {
     say::end();
 }
 
+pub fn merge_validation(w: &[u8], no: u32) {
+    say::words(w);
+    say::number(no as u64);
+    say::end();
+}
+
 pub fn validations() {
     validation(b"validate 1.2 by <1:1>: ", one(1, 1).validate_op(dot(1, 2)));
     validation(b"validate 1.3 by <1:1>: ", one(1, 1).validate_op(dot(1, 3)));
@@ -125,7 +131,8 @@ pub fn validations() {
         b"validate the largest counter by itself: ",
         one(1, 18446744073709551615).validate_op(dot(1, 18446744073709551615)),
     );
-    say::words(b"validate_merge <1:1> with <2:1>: ");
-    say::number(one(1, 1).validate_merge(one(2, 1)) as u64);
-    say::end();
+    merge_validation(
+        b"validate_merge <1:1> with <2:1>: ",
+        one(1, 1).validate_merge(one(2, 1)),
+    );
 }

@@ -16,8 +16,13 @@ pub fn successors() {
     );
 }
 
-fn against(w: &[u8], a: Dot, b: Dot) {
+// a.m against b.n
+fn against(w: &[u8], a: u32, m: u64, b: u32, n: u64) {
     say::words(w);
+    compared(dot(a, m), dot(b, n));
+}
+
+fn compared(a: Dot, b: Dot) {
     say::order(a.compare(b));
     say::words(b", the same: ");
     say::truth(a.same(b));
@@ -27,11 +32,11 @@ fn against(w: &[u8], a: Dot, b: Dot) {
 }
 
 pub fn comparisons() {
-    against(b"1.1 against 1.2: ", dot(1, 1), dot(1, 2));
-    against(b"1.2 against 1.2: ", dot(1, 2), dot(1, 2));
-    against(b"1.3 against 1.2: ", dot(1, 3), dot(1, 2));
-    against(b"1.9 against 2.1: ", dot(1, 9), dot(2, 1));
-    against(b"2.1 against 1.9: ", dot(2, 1), dot(1, 9));
+    against(b"1.1 against 1.2: ", 1, 1, 1, 2);
+    against(b"1.2 against 1.2: ", 1, 2, 1, 2);
+    against(b"1.3 against 1.2: ", 1, 3, 1, 2);
+    against(b"1.9 against 2.1: ", 1, 9, 2, 1);
+    against(b"2.1 against 1.9: ", 2, 1, 1, 9);
     say::words(b"4294967295.7 as an ordered dot and back: ");
     say::dot(Dot::from_ord(OrdDot::from_dot(dot(4294967295, 7))));
     say::end();

@@ -1,4 +1,5 @@
 // The calls on bad records and at the limits; text and contexts.
+use crate::clock_calls::merge_validation;
 use crate::clock_calls::nth;
 use crate::clock_calls::validation;
 use crate::samples;
@@ -15,12 +16,14 @@ fn bad_record(w: &[u8], c: VClock) {
     say::end();
     bad_reading(c);
     bad_change(c);
+    bad_common(c);
     bad_order(c);
     shown(b"display: ", c);
 }
 
 fn bad_reading(c: VClock) {
     say::counter_line(b"get: ", c.get(Actor(1)));
+    say::dot_line(b"dot: ", c.dot(Actor(1)));
     say::dot_line(b"inc: ", c.inc(Actor(1)));
     say::truth_line(b"is_empty: ", c.is_empty());
 }
@@ -32,10 +35,17 @@ fn bad_change(c: VClock) {
     say::clock_line(b"reset by it: ", one(1, 1).reset_remove(c));
 }
 
+fn bad_common(c: VClock) {
+    say::clock_line(b"without it: ", one(1, 1).clone_without(c));
+    say::clock_line(b"intersection: ", one(1, 1).intersection(c));
+    say::clock_line(b"glb: ", c.glb(one(1, 1)));
+}
+
 fn bad_order(c: VClock) {
     say::order_line(b"compare: ", c.compare(one(1, 1)));
     say::truth_line(b"concurrent: ", one(1, 1).concurrent(c));
     validation(b"validate_op: ", c.validate_op(dot(1, 9)));
+    merge_validation(b"validate_merge: ", one(1, 1).validate_merge(c));
     nth(b"nth: ", c.nth(0));
 }
 
