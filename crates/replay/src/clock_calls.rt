@@ -1,0 +1,233 @@
+// The calls of dots, clocks and contexts, which C doesn't have.
+ghost use mathlib.Core.Path.{_≡_};
+ghost use lib.ListN.{length};
+use crate::text::bytes;
+use crate::text::field;
+use crate::text::holds;
+use crate::text::number;
+use crate::text::number_up_to;
+use crate::text::number32;
+use clocks::ClockAnswer;
+use clocks::OpValidation;
+use clocks::VClock;
+use contexts::ReadCtx;
+use dots::Actor;
+use dots::Comparison;
+use dots::Dot;
+use dots::DotAnswer;
+use dots::OrdDot;
+use fields::clock_at;
+use fields::put_clock;
+use fields::put_u32;
+use fields::put_u64;
+use fields::u32_at;
+use fields::u64_at;
+
+pub(crate) enum ClockCall {
+    DotInc,
+    DotCompare,
+    OrdDotCompare,
+    Get,
+    IsEmpty,
+    Inc,
+    Apply,
+    Merge,
+    ResetRemove,
+    CloneWithout,
+    Intersection,
+    Glb,
+    Compare,
+    Concurrent,
+    ValidateOp,
+    Display,
+    DeriveAddCtx,
+}
+
+// A refusal number, and the length of what was written, or what a comparison or a yes or no says.
+struct Said {
+    no: u32,
+    low: usize,
+}
+
+fn counter(no: u32, n: u64, out: &mut [u8]) -> Said {
+    if no == 0 {
+        put_u64(out, 0, n);
+        Said { no, low: 8 }
+    } else {
+        Said { no, low: 0 }
+    }
+}
+
+fn dot(a: DotAnswer, out: &mut [u8]) -> Said {
+    if a.no == 0 {
+        put_u32(out, 0, a.dot.actor.0);
+        put_u64(out, 4, a.dot.counter);
+        Said { no: 0, low: 12 }
+    } else {
+        Said { no: a.no, low: 0 }
+    }
+}
+
+fn clock(a: ClockAnswer, out: &mut [u8]) -> Said {
+    if a.no == 0 {
+        let c = a.clock;
+        Said {
+            no: 0,
+            low: put_clock(out, 0, c),
+        }
+    } else {
+        Said { no: a.no, low: 0 }
+    }
+}
+
+fn truth(no: u32, holds: bool) -> Said {
+    if holds {
+        Said { no, low: 1 }
+    } else {
+        Said { no, low: 0 }
+    }
+}
+
+fn order(no: u32, c: Comparison) -> Said {
+    if no == 0 {
+        match c {
+            Comparison::Less => Said { no, low: 0 },
+            Comparison::Equal => Said { no, low: 1 },
+            Comparison::Greater => Said { no, low: 2 },
+            Comparison::None => Said { no, low: 3 },
+        }
+    } else {
+        Said { no, low: 0 }
+    }
+}
+
+fn gap(v: OpValidation, out: &mut [u8]) -> Said {
+    match v {
+        OpValidation::Valid => Said { no: 0, low: 0 },
+        OpValidation::Refused => Said { no: 3, low: 0 },
+        OpValidation::Gap(g) => {
+            put_u64(out, 0, g.start);
+            put_u64(out, 8, g.end);
+            Said { no: 11, low: 0 }
+        }
+    }
+}
+
+fn added(a: VClock, b: VClock, actor: Actor, out: &mut [u8]) -> Said {
+    let ctx = ReadCtx {
+        add_clock: a,
+        rm_clock: b,
+        answer: false,
+    };
+    let r = ctx.derive_add_ctx(actor);
+    let next = r.ctx;
+    if r.no == 0 {
+        put_u32(out, 0, next.dot.actor.0);
+        put_u64(out, 4, next.dot.counter);
+        let c = next.clock;
+        let n = put_clock(out, 12, c);
+        if n < 4096 {
+            Said { no: 0, low: 12 + n }
+        } else {
+            Said { no: 0, low: 0 }
+        }
+    } else {
+        Said { no: r.no, low: 0 }
+    }
+}
+
+fn shown(a: VClock, out: &mut [u8]) -> Said {
+    let s = display::display(a, out);
+    Said {
+        no: s.no,
+        low: s.len,
+    }
+}
+
+// The dot that 12 bytes say.
+fn dot_at(s: &[u8]) -> Dot {
+    Dot::new(Actor(u32_at(s, 0)), u64_at(s, 4))
+}
+
+fn ordered(a: Dot, b: Dot) -> Said {
+    order(0, OrdDot::from_dot(a).compare(OrdDot::from_dot(b)))
+}
+
+// Makes a call; first and second are two clocks, or two dots, in bytes.
+fn made(call: ClockCall, first: &[u8], second: &[u8], d: Dot, out: &mut [u8]) -> Said {
+    let a = clock_at(first, 0);
+    let b = clock_at(second, 0);
+    let actor = d.actor;
+    match call {
+        ClockCall::DotInc => dot(d.inc(), out),
+        ClockCall::DotCompare => order(0, dot_at(first).compare(dot_at(second))),
+        ClockCall::OrdDotCompare => ordered(dot_at(first), dot_at(second)),
+        ClockCall::Get => {
+            let r = a.get(actor);
+            counter(r.no, r.counter, out)
+        }
+        ClockCall::IsEmpty => {
+            let r = a.is_empty();
+            truth(r.no, r.holds)
+        }
+        ClockCall::Inc => dot(a.inc(actor), out),
+        ClockCall::Apply => clock(a.apply(d), out),
+        ClockCall::Merge => clock(a.merge(b), out),
+        ClockCall::ResetRemove => clock(a.reset_remove(b), out),
+        ClockCall::CloneWithout => clock(a.clone_without(b), out),
+        ClockCall::Intersection => clock(a.intersection(b), out),
+        ClockCall::Glb => clock(a.glb(b), out),
+        ClockCall::Compare => {
+            let r = a.compare(b);
+            let o = r.order;
+            order(r.no, o)
+        }
+        ClockCall::Concurrent => {
+            let r = a.concurrent(b);
+            truth(r.no, r.holds)
+        }
+        ClockCall::ValidateOp => gap(a.validate_op(d), out),
+        ClockCall::Display => shown(a, out),
+        ClockCall::DeriveAddCtx => added(a, b, actor, out),
+    }
+}
+
+// Makes a line's call: `name first second actor counter - room refusal length output`.
+pub(crate) fn agrees(line: &[u8], call: ClockCall) -> bool {
+    let mut first = zeros();
+    let n = bytes(field(line, 1), &mut first);
+    let mut second = zeros();
+    let m = bytes(field(line, 2), &mut second);
+    let d = Dot::new(Actor(number32(field(line, 3))), number(field(line, 4)));
+    let mut out = lent();
+    let room = number_up_to(field(line, 6), 1024);
+    let said = made(call, &first[..n], &second[..m], d, &mut out[..room]);
+    let mut expected = zeros();
+    let e = bytes(field(line, 9), &mut expected);
+    if said.no != number32(field(line, 7)) {
+        return false;
+    }
+    if said.low != number_up_to(field(line, 8), 4096) {
+        return false;
+    }
+    left(&out, &expected[..e])
+}
+
+// Room for what a field says.
+fn zeros() -> [u8; 1024]
+    ensures { λ r. ⌜ 1024 ≡ length r ⌝ }
+{
+    [0u8; 1024]
+}
+
+// An output that is full of one byte.
+fn lent() -> [u8; 1024]
+    ensures { λ r. ⌜ 1024 ≡ length r ⌝ }
+{
+    [165u8; 1024]
+}
+
+// Whether these bytes stand first in an output, and after them what was lent.
+fn left(out: &[u8; 1024], first: &[u8]) -> bool {
+    holds(out, first, 165)
+}
