@@ -23,14 +23,24 @@ use fields::put_u64;
 use fields::u32_at;
 use fields::u64_at;
 
-pub(crate) enum ClockCall {
-    DotInc,
-    DotCompare,
-    OrdDotCompare,
+pub(crate) enum DotCall {
+    Inc,
+    Compare,
+    OrdCompare,
+}
+
+// Calls of one clock.
+pub(crate) enum OneCall {
     Get,
     IsEmpty,
     Inc,
     Apply,
+    ValidateOp,
+    Display,
+}
+
+// Calls of two clocks.
+pub(crate) enum TwoCall {
     Merge,
     ResetRemove,
     CloneWithout,
@@ -38,9 +48,13 @@ pub(crate) enum ClockCall {
     Glb,
     Compare,
     Concurrent,
-    ValidateOp,
-    Display,
     DeriveAddCtx,
+}
+
+pub(crate) enum ClockCall {
+    Dots(DotCall),
+    One(OneCall),
+    Two(TwoCall),
 }
 
 // A refusal number, and the length of what was written, or what a comparison or a yes or no says.
@@ -153,42 +167,58 @@ fn ordered(a: Dot, b: Dot) -> Said {
     order(0, OrdDot::from_dot(a).compare(OrdDot::from_dot(b)))
 }
 
-// Makes a call; first and second are two clocks, or two dots, in bytes.
-fn made(call: ClockCall, first: &[u8], second: &[u8], d: Dot, out: &mut [u8]) -> Said {
-    let a = clock_at(first, 0);
-    let b = clock_at(second, 0);
+fn of_dots(call: DotCall, a: Dot, b: Dot, d: Dot, out: &mut [u8]) -> Said {
+    match call {
+        DotCall::Inc => dot(d.inc(), out),
+        DotCall::Compare => order(0, a.compare(b)),
+        DotCall::OrdCompare => ordered(a, b),
+    }
+}
+
+fn of_one(call: OneCall, a: VClock, d: Dot, out: &mut [u8]) -> Said {
     let actor = d.actor;
     match call {
-        ClockCall::DotInc => dot(d.inc(), out),
-        ClockCall::DotCompare => order(0, dot_at(first).compare(dot_at(second))),
-        ClockCall::OrdDotCompare => ordered(dot_at(first), dot_at(second)),
-        ClockCall::Get => {
+        OneCall::Get => {
             let r = a.get(actor);
             counter(r.no, r.counter, out)
         }
-        ClockCall::IsEmpty => {
+        OneCall::IsEmpty => {
             let r = a.is_empty();
             truth(r.no, r.holds)
         }
-        ClockCall::Inc => dot(a.inc(actor), out),
-        ClockCall::Apply => clock(a.apply(d), out),
-        ClockCall::Merge => clock(a.merge(b), out),
-        ClockCall::ResetRemove => clock(a.reset_remove(b), out),
-        ClockCall::CloneWithout => clock(a.clone_without(b), out),
-        ClockCall::Intersection => clock(a.intersection(b), out),
-        ClockCall::Glb => clock(a.glb(b), out),
-        ClockCall::Compare => {
+        OneCall::Inc => dot(a.inc(actor), out),
+        OneCall::Apply => clock(a.apply(d), out),
+        OneCall::ValidateOp => gap(a.validate_op(d), out),
+        OneCall::Display => shown(a, out),
+    }
+}
+
+fn of_two(call: TwoCall, a: VClock, b: VClock, actor: Actor, out: &mut [u8]) -> Said {
+    match call {
+        TwoCall::Merge => clock(a.merge(b), out),
+        TwoCall::ResetRemove => clock(a.reset_remove(b), out),
+        TwoCall::CloneWithout => clock(a.clone_without(b), out),
+        TwoCall::Intersection => clock(a.intersection(b), out),
+        TwoCall::Glb => clock(a.glb(b), out),
+        TwoCall::Compare => {
             let r = a.compare(b);
             let o = r.order;
             order(r.no, o)
         }
-        ClockCall::Concurrent => {
+        TwoCall::Concurrent => {
             let r = a.concurrent(b);
             truth(r.no, r.holds)
         }
-        ClockCall::ValidateOp => gap(a.validate_op(d), out),
-        ClockCall::Display => shown(a, out),
-        ClockCall::DeriveAddCtx => added(a, b, actor, out),
+        TwoCall::DeriveAddCtx => added(a, b, actor, out),
+    }
+}
+
+// Makes a call; first and second are two clocks, or two dots, in bytes.
+fn made(call: ClockCall, first: &[u8], second: &[u8], d: Dot, out: &mut [u8]) -> Said {
+    match call {
+        ClockCall::Dots(c) => of_dots(c, dot_at(first), dot_at(second), d, out),
+        ClockCall::One(c) => of_one(c, clock_at(first, 0), d, out),
+        ClockCall::Two(c) => of_two(c, clock_at(first, 0), clock_at(second, 0), d.actor, out),
     }
 }
 

@@ -6,6 +6,9 @@ mod text;
 
 ghost use Prim.Native.Nat.{_≤_};
 use crate::clock_calls::ClockCall;
+use crate::clock_calls::DotCall;
+use crate::clock_calls::OneCall;
+use crate::clock_calls::TwoCall;
 use crate::set_calls::SetCall;
 use libc::STDOUT_FILENO;
 
@@ -114,16 +117,22 @@ fn say(name: &[u8], t: Tally) {
     io::write_all(STDOUT_FILENO, b" agree\n");
 }
 
-// The calls over images.
-fn sets(start: Tally) -> Tally {
+// The calls that write an image.
+fn writes(start: Tally) -> Tally {
     let file = b"answers.txt";
     let mut sum = start;
-    sum = replay(sum, file, b"check", Call::Set(SetCall::Check));
     sum = replay(sum, file, b"empty", Call::Set(SetCall::Empty));
     sum = replay(sum, file, b"add", Call::Set(SetCall::Add));
     sum = replay(sum, file, b"remove", Call::Set(SetCall::Remove));
     sum = replay(sum, file, b"merge", Call::Set(SetCall::Merge));
-    sum = replay(sum, file, b"reset", Call::Set(SetCall::Reset));
+    replay(sum, file, b"reset", Call::Set(SetCall::Reset))
+}
+
+// The calls that ask of an image, and those that judge.
+fn reads(start: Tally) -> Tally {
+    let file = b"answers.txt";
+    let mut sum = start;
+    sum = replay(sum, file, b"check", Call::Set(SetCall::Check));
     sum = replay(sum, file, b"contains", Call::Set(SetCall::Contains));
     sum = replay(sum, file, b"read", Call::Set(SetCall::Read));
     sum = replay(sum, file, b"clock", Call::Set(SetCall::Clock));
@@ -142,71 +151,123 @@ fn sets(start: Tally) -> Tally {
     )
 }
 
-// The calls of dots, clocks and contexts.
-fn clocks(start: Tally) -> Tally {
+// The calls of dots.
+fn dots(start: Tally) -> Tally {
     let file = b"clock-answers.txt";
     let mut sum = start;
-    sum = replay(sum, file, b"dot_inc", Call::Clock(ClockCall::DotInc));
+    sum = replay(
+        sum,
+        file,
+        b"dot_inc",
+        Call::Clock(ClockCall::Dots(DotCall::Inc)),
+    );
     sum = replay(
         sum,
         file,
         b"dot_compare",
-        Call::Clock(ClockCall::DotCompare),
+        Call::Clock(ClockCall::Dots(DotCall::Compare)),
     );
-    sum = replay(
+    replay(
         sum,
         file,
         b"ord_dot_compare",
-        Call::Clock(ClockCall::OrdDotCompare),
+        Call::Clock(ClockCall::Dots(DotCall::OrdCompare)),
+    )
+}
+
+// The calls of one clock.
+fn clocks(start: Tally) -> Tally {
+    let file = b"clock-answers.txt";
+    let mut sum = start;
+    sum = replay(
+        sum,
+        file,
+        b"clock_get",
+        Call::Clock(ClockCall::One(OneCall::Get)),
     );
-    sum = replay(sum, file, b"clock_get", Call::Clock(ClockCall::Get));
     sum = replay(
         sum,
         file,
         b"clock_is_empty",
-        Call::Clock(ClockCall::IsEmpty),
-    );
-    sum = replay(sum, file, b"clock_inc", Call::Clock(ClockCall::Inc));
-    sum = replay(sum, file, b"clock_apply", Call::Clock(ClockCall::Apply));
-    sum = replay(sum, file, b"clock_merge", Call::Clock(ClockCall::Merge));
-    sum = replay(
-        sum,
-        file,
-        b"clock_reset_remove",
-        Call::Clock(ClockCall::ResetRemove),
+        Call::Clock(ClockCall::One(OneCall::IsEmpty)),
     );
     sum = replay(
         sum,
         file,
-        b"clock_clone_without",
-        Call::Clock(ClockCall::CloneWithout),
+        b"clock_inc",
+        Call::Clock(ClockCall::One(OneCall::Inc)),
     );
     sum = replay(
         sum,
         file,
-        b"clock_intersection",
-        Call::Clock(ClockCall::Intersection),
-    );
-    sum = replay(sum, file, b"clock_glb", Call::Clock(ClockCall::Glb));
-    sum = replay(sum, file, b"clock_compare", Call::Clock(ClockCall::Compare));
-    sum = replay(
-        sum,
-        file,
-        b"clock_concurrent",
-        Call::Clock(ClockCall::Concurrent),
+        b"clock_apply",
+        Call::Clock(ClockCall::One(OneCall::Apply)),
     );
     sum = replay(
         sum,
         file,
         b"clock_validate_op",
-        Call::Clock(ClockCall::ValidateOp),
+        Call::Clock(ClockCall::One(OneCall::ValidateOp)),
     );
-    sum = replay(sum, file, b"clock_display", Call::Clock(ClockCall::Display));
+    replay(
+        sum,
+        file,
+        b"clock_display",
+        Call::Clock(ClockCall::One(OneCall::Display)),
+    )
+}
+
+// The calls of two clocks.
+fn pairs(start: Tally) -> Tally {
+    let file = b"clock-answers.txt";
+    let mut sum = start;
+    sum = replay(
+        sum,
+        file,
+        b"clock_merge",
+        Call::Clock(ClockCall::Two(TwoCall::Merge)),
+    );
+    sum = replay(
+        sum,
+        file,
+        b"clock_reset_remove",
+        Call::Clock(ClockCall::Two(TwoCall::ResetRemove)),
+    );
+    sum = replay(
+        sum,
+        file,
+        b"clock_clone_without",
+        Call::Clock(ClockCall::Two(TwoCall::CloneWithout)),
+    );
+    sum = replay(
+        sum,
+        file,
+        b"clock_intersection",
+        Call::Clock(ClockCall::Two(TwoCall::Intersection)),
+    );
+    sum = replay(
+        sum,
+        file,
+        b"clock_glb",
+        Call::Clock(ClockCall::Two(TwoCall::Glb)),
+    );
+    sum = replay(
+        sum,
+        file,
+        b"clock_compare",
+        Call::Clock(ClockCall::Two(TwoCall::Compare)),
+    );
+    sum = replay(
+        sum,
+        file,
+        b"clock_concurrent",
+        Call::Clock(ClockCall::Two(TwoCall::Concurrent)),
+    );
     replay(
         sum,
         file,
         b"derive_add_ctx",
-        Call::Clock(ClockCall::DeriveAddCtx),
+        Call::Clock(ClockCall::Two(TwoCall::DeriveAddCtx)),
     )
 }
 
@@ -215,6 +276,6 @@ fn main() {
         agreed: 0,
         lines: 0,
     };
-    let sum = clocks(sets(none));
+    let sum = pairs(clocks(dots(reads(writes(none)))));
     say(b"all", sum);
 }
