@@ -11,12 +11,12 @@ use lib.Seq.{sets}
 use borrow.Author.Tests.{leb-true, leb-false, le-leb, lt-leb}
 use Rattle.layout.specs.Fields.{u16At, u32At, le32}
 
-pub room-left : (n at len : ℕ) → at ≤ len → leb n (len - at) ≡ leb (at + n) len
-room-left n at len h = go (leb n (len - at)) refl
+pub room-left : (n at len : ℕ) → n ≤ len → leb at (len - n) ≡ leb (at + n) len
+room-left n at len h = go (leb at (len - n)) refl
   where
-    go : (b : Bool) → leb n (len - at) ≡ b → b ≡ leb (at + n) len
-    go true e = let l = leb-true n (len - at) e in sym (le-leb (at + n) len (omega arith))
-    go false e = let l = leb-false n (len - at) e in sym (lt-leb (at + n) len (omega arith))
+    go : (b : Bool) → leb at (len - n) ≡ b → b ≡ leb (at + n) len
+    go true e = let l = leb-true at (len - n) e in sym (le-leb (at + n) len (omega arith))
+    go false e = let l = leb-false at (len - n) e in sym (lt-leb (at + n) len (omega arith))
 
 module _ (s : List ℕ) (at k : ℕ) where
   after : (i : ℕ) → at + (k + i) ≡ at + k + i

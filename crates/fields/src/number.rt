@@ -13,14 +13,14 @@ fn wide(x: u8) -> u32
     x as u32
 }
 
-// Whether n bytes from a place on lie inside.
+// Whether n bytes from a place on lie inside. The first test is of the length alone, so that a loop that reads asks it once.
 fn room(s: &[u8], at: usize, n: usize) -> bool
     ensures { λ r. ⌜ r ≡ leb (at + n) (length (now (s .entry))) ⌝ }
 {
-    if s.len() < at {
+    if s.len() < n {
         return false;
     }
-    n <= s.len() - at
+    at <= s.len() - n
 }
 
 // The byte k after a place; 0 past the end.

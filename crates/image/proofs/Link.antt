@@ -1,26 +1,26 @@
 -- The walk along v says what an entry owes: v covers it, and every waiting remove spares it.
 use Prim.Native.Nat.{ℕ, zero, suc, _+_, _*_, _≤_, _<_, min, compare, Ordering, Ordering·lt, Ordering·eq, Ordering·gt}
 use mathlib.Core.Path.{_≡_, refl, sym, ap, ap₂, _∙_, subst}
-use mathlib.Core.Bool.{Bool, true, false, _&&_, and-false}
-use mathlib.Core.List.{List, [], _∷_, _++_, map}
+use mathlib.Core.Bool.{Bool, true, false, _&&_}
+use mathlib.Core.List.{List, [], _∷_, map}
 use native.Mathlib.Omega.{arith}
 use native.Mathlib.Nat.{add-zero, zero-add}
 use lib.Dec.{leb, ltb, eqb, T, ltb→lt}
 use lib.ListN.{length, take, getD, replicate, length-map, List·getD-map}
 use lib.Seq.{sets}
 use borrow.Author.Tests.{lt-leb, eq-eqb, ne-eqb}
-use Rattle.tables.specs.Order.{nat-order, nat-lt, lt-nat, gt-lt}
-use Rattle.tables.specs.Table.{pick, get, every, All, Asc, Below, Normal, below-trans}
-use Rattle.tables.specs.Zip.{Rise, get-none}
+use Rattle.tables.specs.Order.{nat-order, nat-lt, gt-lt}
+use Rattle.tables.specs.Table.{pick, every, All, Asc, Below, Normal, below-trans}
+use Rattle.tables.specs.Zip.{get-none}
 use Rattle.dots.specs.declared.Dot.{Dot}
-use Rattle.dots.specs.Dot.{dots, clocks, actorOf, noDot, counterOf}
+use Rattle.dots.specs.Dot.{clocks, actorOf, noDot}
 use Rattle.dots.specs.Clock.{Clock, count, covers}
 use Rattle.dots.specs.Covering.{count-same, count-other}
 use Rattle.dots.specs.Rising.{true-from}
 use Rattle.dots.specs.ClockLaws.{dot-proper}
 use Rattle.clocks.specs.declared.VClock.{VClock}
 use Rattle.clocks.specs.VClock.{dotsOf, vclock, dots-vclock}
-use Rattle.replica.specs.Replica.{Entry, Wait, Replica, memberRows, entryRows}
+use Rattle.replica.specs.Replica.{Entry, Replica}
 use Rattle.replica.specs.Kills.{killsOf, spared-number}
 use Rattle.layout.specs.Fields.{u32At}
 use Rattle.layout.specs.Lists.{listAt, startsAt}
@@ -29,14 +29,13 @@ use Rattle.layout.specs.Rows.{rowAt, rowIn, rowEnd, rowsAt, placesAt, waitIn, w
 use Rattle.layout.specs.Image.{imageIn, imageOf, goodImage}
 use Rattle.replica.specs.Limits.{full}
 use Rattle.layout.specs.Good.{goodClock, goodMembers, goodRows, goodWaits, goodEntry, goodContents, goodParts, goodPartsIn, partsTests, checksIn}
-use Rattle.layout.specs.Kit.{Stands, stands, Named, named, clock-normal, place-row, place-good, first-wait, length-startsAt, length-clockAt, each-from}
+use Rattle.layout.specs.Kit.{stands, named, clock-normal, place-row, place-good, first-wait, length-startsAt, length-clockAt, each-from}
 use Rattle.layout.specs.Form.{length-listAt}
 use Rattle.layout.specs.Checks.{rows-rise, members-rise, passed}
-use Rattle.fields.specs.Read.{clockRead}
 use Rattle.kills.specs.Lines.{killLines, membersOf, waitRead, waitsOf}
 use Rattle.kills.specs.Laws.{Ordered, kill-numbers}
 use Rattle.kills.proofs.Steps.{taken}
-use Rattle.image.specs.Fits.{within, fits, fitAll}
+use Rattle.image.specs.Fits.{fits, fitAll}
 use Rattle.layout.specs.Main.{checked}
 use Rattle.image.specs.declared.Image.{Image}
 use Rattle.image.specs.Image.{imageOfBytes, checkImage, partsImage, noImage}

@@ -1,15 +1,14 @@
 -- One turn of the walk of an entry's clock along v, and of the loop over entries; the tests of the contents.
-use Prim.Native.Nat.{ℕ, zero, suc, _+_, _-_, _*_, _≤_, _<_}
-use mathlib.Core.Path.{_≡_, refl, sym, ap, ap₂, _∙_}
+use Prim.Native.Nat.{ℕ, suc, _+_, _-_, _*_, _≤_, _<_}
+use mathlib.Core.Path.{_≡_, refl, sym, _∙_}
 use mathlib.Core.Bool.{Bool, true, false, _&&_, and-false}
 use mathlib.Core.List.{List, [], _∷_}
 use native.Mathlib.Omega.{arith}
-use native.Mathlib.Nat.{add-zero}
 use native.Mathlib.Numerals.{add-one}
-use lib.Dec.{leb, ltb, eqb}
-use lib.ListN.{length, getD, take}
+use lib.Dec.{leb, eqb}
+use lib.ListN.{length, getD}
 use lib.Seq.{slice}
-use borrow.Author.Tests.{le-leb, lt-leb, lt-ltb, le-ltb, eq-eqb, ne-eqb, leb-true, eqb-true}
+use borrow.Author.Tests.{le-leb, lt-leb, lt-ltb, le-ltb, eq-eqb, ne-eqb, leb-true}
 use Rattle.tables.specs.Table.{pick}
 use Rattle.tables.specs.Zip.{by-lt}
 use Rattle.dots.specs.declared.Dot.{Dot}
@@ -18,7 +17,7 @@ use Rattle.dots.specs.Clock.{Clock}
 use Rattle.dots.specs.Rising.{both-left, both-right}
 use Rattle.clocks.proofs.Steps.{ahead, done}
 use Rattle.layout.specs.Fields.{u16At, u32At, u64At}
-use Rattle.layout.specs.Clock.{dotIn, dotAt, dotsAt, clockIn, clockAt}
+use Rattle.layout.specs.Clock.{dotIn, dotAt, dotsAt, clockAt}
 use Rattle.layout.specs.Good.{goodContentsIn, goodContents}
 use Rattle.fields.proofs.Steps.{list-step, list-end}
 use Rattle.image.specs.Fits.{within, stepOf, fits, fitAll}

@@ -1,13 +1,9 @@
 // Replica images: the check of any bytes, in one pass over them, and what the calls go by.
 ghost use mathlib.Core.Path.{_≡_};
-ghost use mathlib.Core.Bool.{Bool, true, not, _&&_};
+ghost use mathlib.Core.Bool.{Bool, true};
 ghost use Prim.Native.Nat.{ℕ, _+_, _*_, _<_, _≤_};
-ghost use lib.Dec.{eqb, leb, ltb};
 ghost use lib.ListN.{length, take};
-ghost use Rattle.tables.specs.Table.{pick};
-ghost use Rattle.dots.specs.Dot.{actorOf};
 ghost use Rattle.clocks.specs.VClock.{dotsOf};
-ghost use Rattle.layout.specs.Fields.{u32At, u64At};
 ghost use Rattle.layout.specs.Clock.{clockAt};
 ghost use Rattle.layout.specs.Good.{goodContents};
 ghost use Rattle.image.specs.Image.{checkImage, partsImage, noImage, checkCall, clockCall};

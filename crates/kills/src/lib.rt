@@ -1,10 +1,8 @@
 // Kill lines: for each entry and each actor of a clock, up to which counter the waiting removes that name the entry's member cover the actor's dots.
 ghost use mathlib.Core.Path.{_≡_};
 ghost use mathlib.Core.Bool.{Bool};
-ghost use mathlib.Core.List.{map};
 ghost use Prim.Native.Nat.{ℕ, _+_, _-_, _*_, _<_, _≤_, max, min};
-ghost use lib.ListN.{length, take, replicate};
-ghost use lib.Seq.{sets};
+ghost use lib.ListN.{length, take};
 ghost use Rattle.tables.specs.Table.{pick};
 ghost use Rattle.tables.specs.Zip.{said};
 ghost use Rattle.dots.specs.Dot.{dots};

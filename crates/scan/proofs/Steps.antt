@@ -1,31 +1,28 @@
 -- What each test of the code says of the definition, for what stands at one place.
-use Prim.Native.Nat.{ℕ, zero, suc, _+_, _-_, _*_, _≤_, _<_, compare, Ordering, Ordering·lt, Ordering·eq, Ordering·gt}
+use Prim.Native.Nat.{ℕ, _+_, _-_, _*_, _≤_, _<_, compare, Ordering, Ordering·lt, Ordering·eq, Ordering·gt}
 use mathlib.Core.Path.{_≡_, refl, sym, ap, ap₂, _∙_}
 use mathlib.Core.Bool.{Bool, true, false, _&&_, and-false, false≢true}
 use mathlib.Core.List.{List, [], _∷_}
 use native.Mathlib.Omega.{arith}
-use native.Mathlib.Numerals.{add-one}
 use lib.Dec.{leb, ltb, eqb, isEq}
 use lib.ListN.{length, getD, take, drop}
 use lib.Seq.{getD-take, getD-drop}
 use native.Mathlib.Nat.{add-zero, add-assoc}
-use borrow.Author.Tests.{le-leb, lt-leb, lt-ltb, le-ltb, leb-true}
-use Rattle.tables.specs.Order.{next, self, lt-gt, gt-lt, nat-order, nat-lt, lt-nat, lt≢gt, lt≢eq, gt≢eq}
+use borrow.Author.Tests.{le-leb, lt-leb, lt-ltb, le-ltb}
+use Rattle.tables.specs.Order.{next, self, lt-gt, gt-lt, nat-order, nat-lt, lt-nat}
 use Rattle.tables.specs.Table.{pick}
 use Rattle.tables.specs.Zip.{by-lt}
 use Rattle.tables.specs.Ascending.{isLt}
-use Rattle.dots.specs.declared.Dot.{Dot}
-use Rattle.dots.specs.Dot.{actorOf, cmpDot}
+use Rattle.dots.specs.Dot.{cmpDot}
 use Rattle.dots.specs.Clock.{Clock, cmpClock}
 use Rattle.dots.specs.Rising.{rising}
 use Rattle.replica.specs.Limits.{full}
 use Rattle.layout.specs.Fields.{u32At, u64At}
-use Rattle.layout.specs.Lists.{listAt}
 use Rattle.layout.specs.Clock.{narrow, dotIn, dotAt, dotsAt, clockIn, clockAt, clockEnd, clockEndIn}
 use Rattle.layout.specs.Rows.{membersAt, rowEnd, rowEndIn, waitEnd, waitEndIn}
 use Rattle.layout.specs.Good.{risingMembers, goodMembersIn, goodMembers, goodClockIn, goodClock, chain, rowTests, waitTests}
-use Rattle.layout.specs.Kit.{Stands, stands}
-use Rattle.fields.proofs.Steps.{list-step, list-end, u32-past}
+use Rattle.layout.specs.Kit.{stands}
+use Rattle.fields.proofs.Steps.{list-step, list-end}
 use Rattle.scan.specs.Scan.{clockEnds, membersEnd, rowEnds, waitEnds}
 
 -- ---- numbers in a part of the bytes

@@ -1,14 +1,14 @@
 use Rattle.image.proofs.Steps.{fits-end, fits-none, fits-refused, fits-turn}
 use Rattle.image.specs.Fits.{fits}
-use Rattle.layout.specs.Clock.{dotsAt, clockAt, clockIn}
+use Rattle.layout.specs.Clock.{dotsAt, clockIn}
 use Rattle.layout.specs.Fields.{u32At}
 use Rattle.clocks.proofs.Steps.{mapped}
 use lib.Seq.{slice}
 use lib.ListN.{length, take}
 use native.Mathlib.Nat.{add-zero}
 use native.Mathlib.Omega.{arith}
-use Prim.Native.Nat.{ℕ, _+_, _*_, _-_, _≤_, _<_}
-use mathlib.Core.Path.{_≡_, refl, sym, ap, _∙_}
+use Prim.Native.Nat.{ℕ, _+_, _*_, _-_, _≤_}
+use mathlib.Core.Path.{_≡_, ap, _∙_}
 use borrow.Author.Needs.{needs}
 use Rattle.image.proofs.row_fits.Statement.{statement}
 use Rattle.image.proofs.row_fits.Tie as tie

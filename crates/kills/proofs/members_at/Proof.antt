@@ -2,10 +2,10 @@ use Rattle.kills.proofs.Steps.{members-turn, members-end, taken}
 use Rattle.kills.specs.Lines.{membersOf}
 use Rattle.layout.specs.Fields.{u32At}
 use lib.Seq.{sets, slice}
-use lib.ListN.{length, take, length-set, length-map, length-take}
+use lib.ListN.{length, take, length-map, length-take}
 use native.Mathlib.Omega.{arith}
 use Prim.Native.Nat.{ℕ, _-_, _≤_}
-use mathlib.Core.List.{List, map}
+use mathlib.Core.List.{map}
 use mathlib.Core.Path.{_≡_, refl, sym, ap, _∙_}
 use borrow.Author.Needs.{needs}
 use Rattle.kills.proofs.members_at.Statement.{statement}

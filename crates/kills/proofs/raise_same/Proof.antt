@@ -3,7 +3,7 @@ use Rattle.kills.specs.Lines.{along, numbers, raised}
 use Rattle.replica.specs.Replica.{memberRows}
 use lib.Seq.{slice}
 use native.Mathlib.Omega.{arith}
-use Prim.Native.Nat.{ℕ, _-_, _≤_}
+use Prim.Native.Nat.{ℕ, _-_}
 use mathlib.Core.List.{List, _∷_}
 use mathlib.Core.Path.{_≡_, refl, _∙_}
 use borrow.Author.Needs.{needs}

@@ -3,8 +3,8 @@ use Rattle.layout.specs.Clock.{dotsAt}
 use Rattle.layout.specs.Fields.{u32At}
 use Rattle.dots.specs.Rising.{rising}
 use native.Mathlib.Omega.{arith}
-use Prim.Native.Nat.{ℕ, _+_, _*_, _-_, _≤_, _<_}
-use mathlib.Core.Path.{_≡_, refl, sym, ap, _∙_}
+use Prim.Native.Nat.{ℕ, _+_, _*_, _-_}
+use mathlib.Core.Path.{_≡_, refl, sym, _∙_}
 use borrow.Author.Needs.{needs}
 use Rattle.scan.proofs.dots_rise.Statement.{statement}
 use Rattle.scan.proofs.dots_rise.Tie as tie

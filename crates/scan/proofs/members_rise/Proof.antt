@@ -3,8 +3,8 @@ use Rattle.layout.specs.Rows.{membersAt}
 use Rattle.layout.specs.Fields.{u32At}
 use Rattle.layout.specs.Good.{risingMembers}
 use native.Mathlib.Omega.{arith}
-use Prim.Native.Nat.{ℕ, _+_, _*_, _-_, _≤_, _<_}
-use mathlib.Core.Path.{_≡_, refl, sym, ap, _∙_}
+use Prim.Native.Nat.{ℕ, _+_, _*_, _-_}
+use mathlib.Core.Path.{_≡_, refl, sym, _∙_}
 use borrow.Author.Needs.{needs}
 use Rattle.scan.proofs.members_rise.Statement.{statement}
 use Rattle.scan.proofs.members_rise.Tie as tie
