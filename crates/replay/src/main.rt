@@ -1,5 +1,5 @@
 // Replays stored answers of the Rust crate: makes each line's call and compares the answer and every byte of the output. Prints how many lines of each
-// call agree. The two files are those of oracle/, whose heads say how to read a line.
+// call agree. oracle/write-answers wrote the two files, whose heads say how to read a line.
 mod clock_calls;
 mod set_calls;
 mod text;
