@@ -2,7 +2,6 @@
 use Prim.Native.Nat.{ℕ, _+_}
 use mathlib.Core.Path.{_≡_, refl, sym, ap, _∙_}
 use mathlib.Core.Bool.{Bool, true, false}
-use mathlib.Core.List.{[], _∷_}
 use native.Mathlib.Omega.{arith}
 use lib.Dec.{eqb, ltb}
 use lib.ListN.{length}
@@ -17,7 +16,6 @@ use Rattle.clocks.specs.declared.ClockAnswer.{ClockAnswer}
 use Rattle.clocks.specs.VClock.{dotsOf, normalised}
 use Rattle.clocks.specs.Calls.{dotAnswer, clockAnswer, incCall, applyCall}
 use Rattle.contexts.specs.declared.ReadCtx.{ReadCtx}
-use Rattle.contexts.specs.declared.AddCtxAnswer.{AddCtxAnswer}
 use Rattle.contexts.specs.Contexts.{fit, addCtxAnswer, refusedAdd, addCtxCall}
 
 -- ---- the three ways, by the two tests: l, the counter is the largest, and w, the result has too many actors

@@ -1,6 +1,5 @@
 // Contexts (src/ctx.rs of the crate): what a read hands out, and what an add or a remove is made from. Each call judges both clocks of a read context, used or not.
 ghost use mathlib.Core.Path.{_≡_};
-ghost use mathlib.Core.Bool.{Bool};
 ghost use Rattle.contexts.specs.Contexts.{fit, refusedAdd, addCtxCall, rmCtxCall, splitCall};
 use clocks::VClock;
 use dots::Actor;

@@ -1,6 +1,6 @@
 -- Ordered dots by how their actors stand: the same, the first below, the first above.
-use Prim.Native.Nat.{ℕ, _<_, compare}
-use mathlib.Core.Path.{_≡_, sym}
+use Prim.Native.Nat.{_<_, compare}
+use mathlib.Core.Path.{_≡_}
 use mathlib.Core.Bool.{true, false}
 use lib.Dec.{leb}
 use Rattle.tables.specs.Order.{nat-order, self, lt-nat, lt-gt}

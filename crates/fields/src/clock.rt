@@ -1,7 +1,6 @@
 // Clocks, entries and contents in bytes.
 ghost use mathlib.Core.Path.{_≡_};
-ghost use Prim.Native.Nat.{ℕ, _+_, _*_, _<_, _≤_, min};
-ghost use lib.ListN.{length};
+ghost use Prim.Native.Nat.{_+_, _*_, _<_, _≤_, min};
 ghost use lib.Seq.{sets};
 ghost use Rattle.clocks.specs.VClock.{dotsOf, vclock};
 ghost use Rattle.layout.specs.Clock.{encodeClock};

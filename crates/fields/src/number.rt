@@ -1,10 +1,10 @@
 // Little-endian numbers.
 ghost use mathlib.Core.Path.{_≡_};
-ghost use Prim.Native.Nat.{ℕ, _+_, _*_, _<_, _≤_};
+ghost use Prim.Native.Nat.{_+_, _*_, _<_, _≤_};
 ghost use lib.Dec.{leb};
 ghost use lib.ListN.{length, getD, set};
 ghost use lib.Seq.{sets};
-ghost use Rattle.layout.specs.Fields.{u16At, u32At, u64At, le16, le32, le64};
+ghost use Rattle.layout.specs.Fields.{u16At, u32At, u64At, le32, le64};
 
 // A byte as a u32. Its callers learn that it is below 256.
 fn wide(x: u8) -> u32

@@ -1,32 +1,29 @@
 -- What each test of the parts says of the whole.
-use Prim.Native.Nat.{ℕ, zero, suc, _+_, _-_, _*_, _≤_, _<_, min}
-use mathlib.Core.Path.{_≡_, refl, sym, ap, ap₂, _∙_}
+use Prim.Native.Nat.{ℕ, zero, suc, _+_, _*_, _≤_, min}
+use mathlib.Core.Path.{_≡_, refl, sym, ap, _∙_}
 use mathlib.Core.Bool.{Bool, true, false, _&&_, and-false, false≢true}
-use mathlib.Core.List.{List, [], _∷_}
+use mathlib.Core.List.{List, []}
 use native.Mathlib.Omega.{arith}
-use lib.Dec.{leb, eqb}
+use lib.Dec.{leb}
 use lib.ListN.{length, replicate}
 use lib.Seq.{sets}
-use borrow.Author.Tests.{le-leb, lt-leb, eq-eqb, ne-eqb, leb-true}
+use borrow.Author.Tests.{le-leb, eq-eqb, ne-eqb}
 use Rattle.tables.specs.Table.{pick}
-use Rattle.dots.specs.Clock.{Clock}
-use Rattle.dots.specs.Rising.{both-left, both-right}
+use Rattle.dots.specs.Rising.{both-right}
 use Rattle.clocks.specs.declared.VClock.{VClock}
 use Rattle.clocks.specs.VClock.{vclock}
-use Rattle.replica.specs.Limits.{full}
 use Rattle.layout.specs.Fields.{u32At}
 use Rattle.layout.specs.Lists.{endAfter}
-use Rattle.layout.specs.Clock.{narrow, clockIn, clockAt, clockEnd, clockEndIn}
-use Rattle.layout.specs.Rows.{rowEnd, placesAt, rowsEnd, waitEnd, waitPlacesAt, waitsEnd}
-use Rattle.layout.specs.Image.{imageIn, entriesStart}
-use Rattle.layout.specs.Good.{goodClock, goodRows, goodRowsIn, goodWaits, goodContents, goodParts, goodPartsIn}
-use Rattle.layout.specs.Kit.{Stands, stands, clock-room, first-row}
+use Rattle.layout.specs.Clock.{clockIn, clockAt, clockEnd, clockEndIn}
+use Rattle.layout.specs.Rows.{rowEnd, placesAt, rowsEnd, waitPlacesAt, waitsEnd}
+use Rattle.layout.specs.Image.{imageIn}
+use Rattle.layout.specs.Good.{goodClock, goodRows, goodWaits, goodContents, goodPartsIn}
+use Rattle.layout.specs.Kit.{stands, first-row}
 use Rattle.fields.specs.Read.{clockRead}
 use Rattle.scan.specs.declared.Table.{Table}
 use Rattle.scan.specs.declared.Waits.{Waits}
 use Rattle.scan.specs.Scan.{clockEnds, rowsTable, noTable, waitsTable, noWaits, inside}
 use Rattle.image.specs.Image.{imageOfBytes, partsImage, noImage}
-use Rattle.image.specs.declared.Image.{Image}
 
 -- a clock that stands reads as it stands
 pub read-good : (s : List ℕ) (at : ℕ) → goodClock s at ≡ true → clockRead s at ≡ clockAt s at

@@ -1,14 +1,11 @@
 -- What the check of an image answers: "the lent image is exactly its total length", and all of well-formed.
 use Prim.Native.Nat.{ℕ}
-use mathlib.Core.Path.{_≡_}
-use mathlib.Core.Bool.{Bool, true, false}
+use mathlib.Core.Bool.{true, false}
 use mathlib.Core.List.{List, []}
 use lib.ListN.{replicate}
 use lib.Seq.{sets}
 use Rattle.tables.specs.Table.{pick}
-use Rattle.clocks.specs.declared.VClock.{VClock}
 use Rattle.clocks.specs.VClock.{vclock}
-use Rattle.replica.specs.Replica.{Replica}
 use Rattle.layout.specs.Rows.{placesAt, waitPlacesAt}
 use Rattle.layout.specs.Image.{entriesStart, entriesCount, waitsStart, waitsCount, imageOf, goodImage}
 use Rattle.layout.specs.Good.{goodParts}

@@ -1,7 +1,7 @@
 // Replica images: the check of any bytes, in one pass over them, and what the calls go by.
 ghost use mathlib.Core.Path.{_≡_};
-ghost use mathlib.Core.Bool.{Bool, true};
-ghost use Prim.Native.Nat.{ℕ, _+_, _*_, _<_, _≤_};
+ghost use mathlib.Core.Bool.{true};
+ghost use Prim.Native.Nat.{_+_, _*_, _<_, _≤_};
 ghost use lib.ListN.{length, take};
 ghost use Rattle.clocks.specs.VClock.{dotsOf};
 ghost use Rattle.layout.specs.Clock.{clockAt};

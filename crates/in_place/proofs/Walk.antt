@@ -24,7 +24,7 @@ use denote.Memory.{mem}
 use denote.Plain.{uint-makes}
 use denote.Builtin.{u32, RefMutOf}
 use denote.Ref.{RefT, MutRef, ptr-vals, mut-tells, now}
-use denote.Signature.{Signature, plain}
+use denote.Signature.{plain}
 use denote.Steps.{only, opens, closes, owned, peeks, heard, nothing}
 use denote.Struct.Steps.{spelt}
 use denote.Struct.Struct.{layout, Plains}

@@ -13,7 +13,7 @@ use Rattle.tables.specs.Order.{nat-lt, lt-nat}
 use Rattle.tables.specs.Table.{pick, get, Asc, Below, All}
 use Rattle.tables.specs.Zip.{Rows, kind, front, Rise, get-after}
 use Rattle.tables.specs.Walk.{said-get}
-use Rattle.dots.specs.Dot.{dots, clocks, actorOf, noDot}
+use Rattle.dots.specs.Dot.{dots, actorOf, noDot}
 use Rattle.dots.specs.Clock.{Clock, count}
 use Rattle.replica.specs.Replica.{Wait, memberRows, memberSets}
 use Rattle.replica.specs.Kills.{killsOf}

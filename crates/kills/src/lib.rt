@@ -1,7 +1,6 @@
 // Kill lines: for each entry and each actor of a clock, up to which counter the waiting removes that name the entry's member cover the actor's dots.
 ghost use mathlib.Core.Path.{_≡_};
-ghost use mathlib.Core.Bool.{Bool};
-ghost use Prim.Native.Nat.{ℕ, _+_, _-_, _*_, _<_, _≤_, max, min};
+ghost use Prim.Native.Nat.{_+_, _-_, _*_, _<_, _≤_, max, min};
 ghost use lib.ListN.{length, take};
 ghost use Rattle.tables.specs.Table.{pick};
 ghost use Rattle.tables.specs.Zip.{said};

@@ -8,7 +8,6 @@ use Rattle.clocks.specs.VClock.{vclock}
 use Rattle.clocks.specs.Calls.{unfit, granted, Validated as DotValidated}
 use Rattle.contexts.specs.declared.AddCtx.{AddCtx}
 use Rattle.contexts.specs.declared.RmCtx.{RmCtx}
-use Rattle.operations.specs.declared.Op.{Op}
 use Rattle.operations.specs.declared.Op.the-variants.{Add, Remove}
 use Rattle.operations.specs.Calls.{Validated, says}
 use Rattle.proposing.specs.declared.OpAnswer.{OpAnswer}

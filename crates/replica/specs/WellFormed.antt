@@ -1,7 +1,6 @@
 -- Well-formed, limits aside: the computed test `sound`, the pointwise facts `Fine`, and that the two say the same. Limits.antt adds the limits.
 use Prim.Native.Nat.{ℕ, zero, suc, _≤_, _<_, compare}
 use mathlib.Core.Path.{_≡_, refl, sym, ap, _∙_, subst}
-use mathlib.Core.Logic.{_≢_}
 use mathlib.Core.Bool.{Bool, true, false, not, _||_, false≢true}
 use mathlib.Core.Option.{some}
 use mathlib.Core.List.{List, [], _∷_, map}

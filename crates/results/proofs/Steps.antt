@@ -1,20 +1,18 @@
 -- How a draft is judged and written, case by case.
-use Prim.Native.Nat.{ℕ, _+_, _*_, _-_, _≤_, _<_}
-use mathlib.Core.Path.{_≡_, refl, sym, ap, _∙_}
+use Prim.Native.Nat.{ℕ, _+_, _≤_, _<_}
+use mathlib.Core.Path.{_≡_, sym, ap, _∙_}
 use mathlib.Core.Logic.{_⊎_, inl, inr}
-use mathlib.Core.Bool.{Bool, true, false}
-use mathlib.Core.List.{List, [], _∷_, _++_}
+use mathlib.Core.Bool.{false}
+use mathlib.Core.List.{List, [], _++_}
 use native.Mathlib.Omega.{arith}
 use native.Mathlib.Nat.{zero-add}
 use native.Mathlib.Numerals.{add-one}
-use lib.Dec.{eqb, ltb}
-use lib.ListN.{length, take, drop, set, getD, length-take, drop-of-length-le}
+use lib.Dec.{eqb}
+use lib.ListN.{length, take, set, getD, length-take, drop-of-length-le}
 use lib.Seq.{sets, slice, length-sets, drop-cons, getD-take}
 use borrow.Author.Tests.{lt-ltb, le-ltb}
-use Rattle.tables.specs.Table.{pick}
 use Rattle.tables.specs.Refusal.{firstOf}
 use Rattle.tables.specs.Stores.{sets-append}
-use Rattle.dots.specs.declared.Dot.{Dot}
 use Rattle.clocks.specs.declared.VClock.{VClock}
 use Rattle.clocks.specs.VClock.{dotsOf}
 use Rattle.layout.specs.Image.{contents}

@@ -1,7 +1,6 @@
 -- What every call that writes a replica promises: its refusals in the order of the table, or the result's image from byte 0 on.
 use Prim.Native.Nat.{ℕ}
-use mathlib.Core.Path.{_≡_, refl, sym, _∙_}
-use mathlib.Core.Bool.{Bool}
+use mathlib.Core.Path.{_≡_, sym, _∙_}
 use mathlib.Core.List.{List, [], _∷_, _++_}
 use lib.Dec.{eqb, ltb}
 use lib.ListN.{length}
@@ -9,7 +8,7 @@ use lib.Seq.{sets}
 use Rattle.tables.specs.Table.{pick}
 use Rattle.tables.specs.Refusal.{Refusal, _if_, firstOf}
 use Rattle.replica.specs.Replica.{Replica}
-use Rattle.replica.specs.Limits.{Limits, limitsOf, full}
+use Rattle.replica.specs.Limits.{Limits, limitsOf}
 use Rattle.layout.specs.Image.{encode}
 use Rattle.results.specs.declared.Written.{Written}
 

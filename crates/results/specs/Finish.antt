@@ -1,16 +1,14 @@
 -- How a result is finished: its clock and the counts of its draft are judged, and it is written whole.
-use Prim.Native.Nat.{ℕ, _+_, _*_, _≤_, _<_}
-use mathlib.Core.Path.{_≡_, refl, sym, ap, ap₂, _∙_}
-use mathlib.Core.Bool.{Bool, true, false, _||_}
+use Prim.Native.Nat.{ℕ, _+_, _*_}
+use mathlib.Core.Path.{_≡_}
 use mathlib.Core.List.{List, [], _∷_, _++_}
 use lib.Dec.{eqb, ltb}
 use lib.ListN.{length}
 use lib.Seq.{sets, slice}
-use Rattle.tables.specs.Table.{pick, any}
+use Rattle.tables.specs.Table.{pick}
 use Rattle.tables.specs.Refusal.{_if_, firstOf}
 use Rattle.clocks.specs.declared.VClock.{VClock}
 use Rattle.clocks.specs.VClock.{dotsOf}
-use Rattle.replica.specs.Replica.{Wait, Replica}
 use Rattle.layout.specs.Image.{contents}
 use Rattle.layout.specs.Clock.{encodeClock}
 use Rattle.results.specs.declared.Written.{Written}

@@ -1,21 +1,19 @@
 -- One turn of the loops over entries and over waiting removes, and what each ending says of the whole.
-use Prim.Native.Nat.{ℕ, zero, suc, _+_, _-_, _*_, _≤_, _<_}
-use mathlib.Core.Path.{_≡_, refl, sym, ap, _∙_}
+use Prim.Native.Nat.{ℕ, _+_, _≤_, _<_}
+use mathlib.Core.Path.{_≡_, refl, sym, _∙_}
 use mathlib.Core.Bool.{Bool, true, false, _&&_, and-false}
 use mathlib.Core.List.{List, [], _∷_}
 use native.Mathlib.Omega.{arith}
 use native.Mathlib.Numerals.{add-one}
-use lib.Dec.{leb}
 use lib.ListN.{length, set, replicate}
 use lib.Seq.{sets}
 use borrow.Author.Tests.{le-leb, lt-leb}
-use Rattle.tables.specs.Table.{pick}
 use Rattle.dots.specs.Clock.{Clock}
 use Rattle.replica.specs.Limits.{full}
 use Rattle.layout.specs.Fields.{u32At}
 use Rattle.layout.specs.Lists.{startsAt, endAfter, listAt}
-use Rattle.layout.specs.Clock.{narrow, clockIn, clockAt, clockEndIn}
-use Rattle.layout.specs.Rows.{rowEnd, rowEndIn, placesAt, rowsEnd, waitEnd, waitEndIn, waitPlacesAt, waitsEnd}
+use Rattle.layout.specs.Clock.{narrow, clockIn, clockAt}
+use Rattle.layout.specs.Rows.{rowEnd, placesAt, rowsEnd, waitEnd, waitPlacesAt, waitsEnd}
 use Rattle.layout.specs.Good.{goodRowsIn, goodRows, goodWaitsIn, goodWaits, chain, rowTests, waitTests}
 use Rattle.layout.specs.Kit.{starts-step, end-step, first-row, first-wait}
 use Rattle.fields.proofs.Steps.{u32-past}

@@ -2,14 +2,13 @@
 use Prim.Native.Nat.{ℕ, _+_, _*_}
 use mathlib.Core.Bool.{Bool, true, false, _&&_}
 use mathlib.Core.List.{List, []}
-use lib.Dec.{leb, ltb}
+use lib.Dec.{leb}
 use lib.ListN.{length, replicate}
 use lib.Seq.{sets}
 use Rattle.tables.specs.Table.{pick}
-use Rattle.tables.specs.Ascending.{isLt}
-use Rattle.dots.specs.Clock.{Clock, cmpClock}
+use Rattle.dots.specs.Clock.{Clock}
 use Rattle.layout.specs.Fields.{u32At}
-use Rattle.layout.specs.Clock.{clockAt, clockEnd, narrow}
+use Rattle.layout.specs.Clock.{clockEnd, narrow}
 use Rattle.layout.specs.Rows.{rowEnd, placesAt, rowsEnd, waitEnd, waitPlacesAt, waitsEnd}
 use Rattle.replica.specs.Limits.{full}
 use Rattle.layout.specs.Good.{goodClock, goodMembers, goodRows, goodWaits, chain, rowTests, waitTests}

@@ -1,7 +1,6 @@
 // The parts of an image, checked where they stand: clocks, entries, waiting removes, of any bytes. Each answer is the place after what stands there, and 0 where none does.
 ghost use mathlib.Core.Path.{_≡_};
-ghost use mathlib.Core.List.{[]};
-ghost use Prim.Native.Nat.{ℕ, _+_, _-_, _*_, _<_, _≤_};
+ghost use Prim.Native.Nat.{_+_, _-_, _*_, _<_, _≤_};
 ghost use lib.Dec.{isEq};
 ghost use lib.ListN.{length};
 ghost use Rattle.tables.specs.Ascending.{isLt};

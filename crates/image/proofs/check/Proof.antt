@@ -1,5 +1,5 @@
 use Rattle.image.proofs.Link.{few-told, check-good, check-unfit, check-bad}
-use mathlib.Core.Path.{_≡_, refl, sym, ap, _∙_}
+use mathlib.Core.Path.{_∙_}
 use borrow.Author.Needs.{needs}
 use Rattle.image.proofs.check.Statement.{statement}
 use Rattle.image.proofs.check.Tie as tie

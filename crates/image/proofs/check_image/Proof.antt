@@ -1,7 +1,6 @@
 use Rattle.image.proofs.Link.{image-good}
 use Rattle.image.specs.Image.{checkCall}
 use mathlib.Core.Bool.{true, false}
-use mathlib.Core.Path.{_≡_, refl, sym, ap, _∙_}
 use borrow.Author.Needs.{needs}
 use Rattle.image.proofs.check_image.Statement.{statement}
 use Rattle.image.proofs.check_image.Tie as tie

@@ -1,9 +1,7 @@
 use Rattle.image.proofs.Link.{image-good}
 use Rattle.image.specs.Image.{clockCall, imageOfBytes, noImage}
-use Rattle.image.specs.declared.Image.{Image}
-use Rattle.clocks.specs.declared.VClock.{VClock}
 use mathlib.Core.Bool.{true, false}
-use mathlib.Core.Path.{_≡_, refl, sym, ap, _∙_}
+use mathlib.Core.Path.{sym, _∙_}
 use borrow.Author.Needs.{needs}
 use Rattle.image.proofs.clock.Statement.{statement}
 use Rattle.image.proofs.clock.Tie as tie

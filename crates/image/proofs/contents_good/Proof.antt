@@ -1,7 +1,6 @@
 use Rattle.image.proofs.Steps.{contents-short, contents-version, contents-zero, contents-total, contents-many, contents-waits}
 use native.Mathlib.Omega.{arith}
 use mathlib.Core.Bool.{false≢true}
-use mathlib.Core.Path.{_≡_, sym, _∙_}
 use borrow.Author.Needs.{needs}
 use Rattle.image.proofs.contents_good.Statement.{statement}
 use Rattle.image.proofs.contents_good.Tie as tie

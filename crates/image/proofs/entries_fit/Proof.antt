@@ -2,10 +2,10 @@ use Rattle.image.proofs.Steps.{all-turn, all-stop, all-end}
 use Rattle.image.specs.Fits.{fitAll}
 use Rattle.clocks.specs.VClock.{dotsOf}
 use lib.Seq.{slice}
-use lib.ListN.{length, take}
+use lib.ListN.{take}
 use native.Mathlib.Omega.{arith}
-use Prim.Native.Nat.{ℕ, _+_, _*_, _-_, _≤_, _<_}
-use mathlib.Core.Path.{_≡_, refl, sym, ap, _∙_}
+use Prim.Native.Nat.{_-_, _≤_}
+use mathlib.Core.Path.{_≡_, refl, _∙_}
 use borrow.Author.Needs.{needs}
 use Rattle.image.proofs.entries_fit.Statement.{statement}
 use Rattle.image.proofs.entries_fit.Tie as tie

@@ -1,7 +1,6 @@
 use Rattle.image.specs.Image.{noImage}
 use mathlib.Core.Bool.{false}
 use lib.ListN.{replicate}
-use mathlib.Core.Path.{_≡_, refl, sym, ap, _∙_}
 use borrow.Author.Needs.{needs}
 use Rattle.image.proofs.no_image.Statement.{statement}
 use Rattle.image.proofs.no_image.Tie as tie

@@ -6,9 +6,8 @@ use Rattle.scan.specs.declared.Table.{Table}
 use Rattle.layout.specs.Kit.{stands, clock-room}
 use Rattle.layout.specs.Fields.{u32At}
 use lib.ListN.{length}
-use native.Mathlib.Omega.{arith}
-use Prim.Native.Nat.{ℕ, _≤_}
-use mathlib.Core.Path.{_≡_, refl, sym, ap, ap₂, _∙_}
+use Prim.Native.Nat.{_≤_}
+use mathlib.Core.Path.{_≡_, sym, ap, ap₂, _∙_}
 use borrow.Author.Needs.{needs}
 use Rattle.image.proofs.parts.Statement.{statement}
 use Rattle.image.proofs.parts.Tie as tie

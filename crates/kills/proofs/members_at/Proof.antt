@@ -4,7 +4,7 @@ use Rattle.layout.specs.Fields.{u32At}
 use lib.Seq.{sets, slice}
 use lib.ListN.{length, take, length-map, length-take}
 use native.Mathlib.Omega.{arith}
-use Prim.Native.Nat.{ℕ, _-_, _≤_}
+use Prim.Native.Nat.{_-_, _≤_}
 use mathlib.Core.List.{map}
 use mathlib.Core.Path.{_≡_, refl, sym, ap, _∙_}
 use borrow.Author.Needs.{needs}

@@ -1,6 +1,5 @@
 use Prim.Native.Nat.{_-_}
 use native.Mathlib.Omega.{arith}
-use borrow.Author.Needs.{needs}
 use Rattle.replay.proofs.in_file.Statement.{statement}
 use Rattle.replay.proofs.in_file.Tie as tie
 

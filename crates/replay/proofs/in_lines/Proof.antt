@@ -1,7 +1,6 @@
 use Prim.Native.Nat.{_≤_, _-_}
 use native.Mathlib.Omega.{arith}
 use lib.ListN.{length}
-use borrow.Author.Needs.{needs}
 use Rattle.replay.proofs.in_lines.Statement.{statement}
 use Rattle.replay.proofs.in_lines.Tie as tie
 

@@ -1,7 +1,5 @@
-use mathlib.Core.Path.{refl}
 use Rattle.tables.specs.Table.{pick-both}
 use Rattle.results.specs.Call.{answered}
-use borrow.Author.Needs.{needs}
 use Rattle.results.proofs.refused.Statement.{statement}
 use Rattle.results.proofs.refused.Tie as tie
 

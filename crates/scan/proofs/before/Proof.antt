@@ -1,6 +1,5 @@
 use Rattle.scan.proofs.Steps.{before-actor, after-actor, before-counter}
 use native.Mathlib.Omega.{arith}
-use mathlib.Core.Path.{_≡_, sym, _∙_}
 use borrow.Author.Needs.{needs}
 use Rattle.scan.proofs.before.Statement.{statement}
 use Rattle.scan.proofs.before.Tie as tie

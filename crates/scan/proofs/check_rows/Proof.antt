@@ -7,8 +7,8 @@ use lib.Seq.{sets}
 use lib.ListN.{length, length-set}
 use native.Mathlib.Omega.{arith}
 use native.Mathlib.Nat.{sub-zero}
-use Prim.Native.Nat.{ℕ, _+_, _*_, _-_, _≤_, _<_}
-use mathlib.Core.Path.{_≡_, refl, sym, ap, _∙_}
+use Prim.Native.Nat.{_+_, _-_, _≤_}
+use mathlib.Core.Path.{_≡_, refl, sym, _∙_}
 use borrow.Author.Needs.{needs}
 use Rattle.scan.proofs.check_rows.Statement.{statement}
 use Rattle.scan.proofs.check_rows.Tie as tie

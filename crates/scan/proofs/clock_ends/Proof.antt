@@ -1,7 +1,7 @@
 use Rattle.scan.proofs.Steps.{clock-short, clock-many, clock-no-room, clock-stands, clock-falls}
 use Rattle.layout.specs.Fields.{u32At}
 use native.Mathlib.Omega.{arith}
-use mathlib.Core.Path.{_≡_, refl, sym, ap, _∙_}
+use mathlib.Core.Path.{_≡_, _∙_}
 use borrow.Author.Needs.{needs}
 use Rattle.scan.proofs.clock_ends.Statement.{statement}
 use Rattle.scan.proofs.clock_ends.Tie as tie

@@ -3,8 +3,8 @@ use Rattle.layout.specs.Clock.{dotsAt, clockAt}
 use Rattle.dots.specs.Clock.{cmpClock}
 use Rattle.tables.specs.Ascending.{isLt}
 use native.Mathlib.Omega.{arith}
-use Prim.Native.Nat.{ℕ, _+_, _*_, _-_, _≤_, _<_}
-use mathlib.Core.Path.{_≡_, refl, sym, ap, _∙_}
+use Prim.Native.Nat.{_+_, _*_, _-_, _≤_}
+use mathlib.Core.Path.{_≡_, sym, _∙_}
 use borrow.Author.Needs.{needs}
 use Rattle.scan.proofs.clock_less.Statement.{statement}
 use Rattle.scan.proofs.clock_less.Tie as tie

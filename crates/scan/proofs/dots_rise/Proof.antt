@@ -3,7 +3,7 @@ use Rattle.layout.specs.Clock.{dotsAt}
 use Rattle.layout.specs.Fields.{u32At}
 use Rattle.dots.specs.Rising.{rising}
 use native.Mathlib.Omega.{arith}
-use Prim.Native.Nat.{ℕ, _+_, _*_, _-_}
+use Prim.Native.Nat.{_+_, _*_, _-_}
 use mathlib.Core.Path.{_≡_, refl, sym, _∙_}
 use borrow.Author.Needs.{needs}
 use Rattle.scan.proofs.dots_rise.Statement.{statement}

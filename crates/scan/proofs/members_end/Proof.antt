@@ -1,7 +1,7 @@
 use Rattle.scan.proofs.Steps.{named-short, named-many, named-no-room, named-stands, named-falls}
 use Rattle.layout.specs.Fields.{u32At}
 use native.Mathlib.Omega.{arith}
-use mathlib.Core.Path.{_≡_, refl, sym, ap, _∙_}
+use mathlib.Core.Path.{_≡_, _∙_}
 use borrow.Author.Needs.{needs}
 use Rattle.scan.proofs.members_end.Statement.{statement}
 use Rattle.scan.proofs.members_end.Tie as tie

@@ -3,7 +3,7 @@ use Rattle.layout.specs.Rows.{membersAt}
 use Rattle.layout.specs.Fields.{u32At}
 use Rattle.layout.specs.Good.{risingMembers}
 use native.Mathlib.Omega.{arith}
-use Prim.Native.Nat.{ℕ, _+_, _*_, _-_}
+use Prim.Native.Nat.{_+_, _*_, _-_}
 use mathlib.Core.Path.{_≡_, refl, sym, _∙_}
 use borrow.Author.Needs.{needs}
 use Rattle.scan.proofs.members_rise.Statement.{statement}

@@ -1,6 +1,6 @@
 use Rattle.scan.proofs.Steps.{row-low, row-empty, row-clock}
 use native.Mathlib.Omega.{arith}
-use mathlib.Core.Path.{_≡_, sym, _∙_}
+use mathlib.Core.Path.{_∙_}
 use borrow.Author.Needs.{needs}
 use Rattle.scan.proofs.row_ends.Statement.{statement}
 use Rattle.scan.proofs.row_ends.Tie as tie

@@ -1,6 +1,5 @@
 use Rattle.scan.proofs.Steps.{same-actor, other-actor}
 use native.Mathlib.Omega.{arith}
-use mathlib.Core.Path.{_≡_, sym, _∙_}
 use borrow.Author.Needs.{needs}
 use Rattle.scan.proofs.same.Statement.{statement}
 use Rattle.scan.proofs.same.Tie as tie

@@ -1,8 +1,7 @@
 use borrow.Author.Needs.{needs}
 use Rattle.scan.proofs.Steps.{wait-no-clock, wait-early, wait-members}
 use Rattle.layout.specs.Clock.{clockAt}
-use native.Mathlib.Omega.{arith}
-use mathlib.Core.Path.{_≡_, sym, _∙_}
+use mathlib.Core.Path.{sym, _∙_}
 use Rattle.scan.proofs.wait_ends.Statement.{statement}
 use Rattle.scan.proofs.wait_ends.Tie as tie
 

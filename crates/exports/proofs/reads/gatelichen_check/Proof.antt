@@ -1,4 +1,3 @@
-use mathlib.Core.Path.{_≡_, _∙_, ap}
 use Rattle.exports.specs.Calls.{checkReply}
 use Rattle.exports.proofs.Replied.{alone}
 use borrow.Author.Needs.{needs}
