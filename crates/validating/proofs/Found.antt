@@ -1,11 +1,13 @@
 -- The search of the loops is document 01's: where clocks ascend, what it finds is the first reportable triple of all.
-use Prim.Native.Nat.{ℕ}
+use Prim.Native.Nat.{ℕ, _+_}
 use mathlib.Core.Path.{_≡_, refl, sym, ap, ap₂, _∙_}
 use mathlib.Core.Bool.{Bool, true, false}
 use mathlib.Core.Option.{Option, none, some, Option·map}
 use mathlib.Core.List.{List, [], _∷_, _++_, map}
+use native.Mathlib.Omega.{arith}
 use lib.Dec.{eqb}
-use lib.ListN.{take}
+use lib.ListN.{take, getD, replicate}
+use lib.Seq.{getD-take}
 use Rattle.tables.specs.Table.{pick, isSome, get, All, all-map}
 use Rattle.tables.specs.Zip.{Rise}
 use Rattle.tables.specs.Refusal.{firstOf}
@@ -14,15 +16,19 @@ use Rattle.dots.specs.Clock.{Clock, count}
 use Rattle.replica.specs.Replica.{Entry, Replica}
 use Rattle.replica.specs.Validate.{Triple, reportable, withTheirs, triples, first, firstSpent, Spent, spentOf, validateMerge}
 use Rattle.replica.specs.Limits.{full}
-use Rattle.layout.specs.Rows.{rowAt}
-use Rattle.layout.specs.Image.{imageOf, goodImage}
+use Rattle.layout.specs.Rows.{rowAt, rowEnd, placesAt}
+use Rattle.layout.specs.Image.{imageOf, goodImage, entriesStart, entriesCount}
+use Rattle.layout.specs.Kit.{stands, length-startsAt, place-good}
 use Rattle.layout.specs.Formed.{EntryFine}
 use Rattle.layout.specs.Checks.{passed}
 use Rattle.image.specs.declared.Image.{Image}
+use Rattle.image.specs.Image.{imageOfBytes, checkImage}
+use Rattle.image.proofs.Link.{image-good}
 use Rattle.checked.proofs.Known.{Known}
 use Rattle.kills.specs.Laws.{along-is}
+use Rattle.kills.proofs.Steps.{taken}
 use Rattle.validating.specs.declared.Validation.the-variants.{BadFirst, BadSecond}
-use Rattle.validating.specs.Search.{Sight, sight, spotted, withCounts, sights, sightsBeside, sightsOf, verdict}
+use Rattle.validating.specs.Search.{Sight, sight, spotted, withCounts, sights, sightsBeside, sightsOf, verdict, Stand}
 use Rattle.validating.specs.Calls.{Validated, validationSays, validateMergeCall}
 
 mapped-append : {X Y : Type 0} (f : X → Y) (xs ys : List X) → map f (xs ++ ys) ≡ map f xs ++ map f ys
@@ -83,6 +89,22 @@ found-is A B p q =
     go (some t) = refl
 
 -- ---- of two images
+
+-- the entries of a good image stand at its places
+pub stand : (s : List ℕ) (x : Image) → x ≡ checkImage s → x .good ≡ true → Stand s (x .places) (x .entries)
+unfolding imageOfBytes
+stand s x c g =
+    let t = image-good s x c true g in
+    let h = passed s (t .0) in
+    let n = entriesCount s in
+    let ps = placesAt s (entriesStart s) n in
+    let k : x .entries ≡ n = ap (λ (y : Image). y .entries) (t .1) in
+    let w : take (x .entries) (x .places) ≡ ps =
+    ap (λ (y : Image). take (y .entries) (y .places)) (t .1) ∙ taken (replicate 64 0) ps n (length-startsAt rowEnd s (entriesStart s) n) (h .few-members) in
+    record {
+      clock = λ i l. let q : getD (x .places) i 0 ≡ getD ps i 0 = sym (getD-take (x .entries) (x .places) i 0 l) ∙ ap (λ (y : List ℕ). getD y i 0) w in
+          rw q (stands s (getD ps i 0 + 4) (place-good s (entriesStart s) 0 n i (h .rows-good) (omega arith)));
+    }
 
 ascend-good : (a : List ℕ) → goodImage a ≡ true → All Ascends (imageOf a .entries)
 ascend-good a g = all-map (EntryFine full (imageOf a)) Ascends (imageOf a .entries) (λ e f. f .normal-ok .asc) (passed a g .formed .entries-ok)

@@ -1,6 +1,6 @@
 -- What is ahead in each of the three loops, and what one turn does to it, in the code's terms.
-use Prim.Native.Nat.{ℕ, _+_, _-_, _*_, _≤_, _<_}
-use mathlib.Core.Path.{_≡_}
+use Prim.Native.Nat.{ℕ, zero, suc, _+_, _-_, _*_, _≤_, _<_}
+use mathlib.Core.Path.{_≡_, refl, sym, ap, _∙_}
 use mathlib.Core.Bool.{Bool, true, false, not, _&&_}
 use mathlib.Core.List.{List, _∷_, _++_, map, append-assoc}
 use native.Mathlib.Omega.{arith}
@@ -8,18 +8,71 @@ use lib.Dec.{eqb}
 use lib.ListN.{length, take, getD}
 use lib.Seq.{slice}
 use Rattle.tables.specs.Zip.{said}
-use Rattle.dots.specs.Dot.{dot, dots}
+use Rattle.dots.specs.declared.Dot.{Dot}
+use Rattle.dots.specs.Dot.{actorOf, dot, dots}
+use Rattle.dots.specs.Rising.{rising, first-of}
 use Rattle.clocks.proofs.Steps.{ahead, done}
 use Rattle.replica.specs.Replica.{Entry}
 use Rattle.replica.specs.Validate.{first}
 use Rattle.layout.specs.Fields.{u32At, u64At}
+use Rattle.layout.specs.Lists.{listAt}
+use Rattle.layout.specs.Kit.{Stands}
 use Rattle.layout.specs.Clock.{dotIn, dotAt, dotsAt, clockIn}
 use Rattle.layout.specs.Rows.{rowIn, rowAt}
 use Rattle.fields.proofs.Steps.{list-step, list-end}
-use Rattle.kills.specs.Lines.{reach}
+use Rattle.kills.specs.Lines.{reach, along}
+use Rattle.kills.proofs.Steps.{skip-dot, stop-dot, end-dot, counted-none, counted-first, counted-other}
 use Rattle.validating.specs.declared.Validation.{Validation}
 use Rattle.validating.specs.declared.Validation.the-variants.{Valid, DoubleSpent}
-use Rattle.validating.specs.Search.{Sight, sight, spotted, sights, sightsBeside, sightsOf, verdict}
+use Rattle.validating.specs.Search.{Sight, sight, spotted, sights, sightsBeside, sightsOf, verdict, Stand, Walked}
+
+-- ---- the walk past an actor, with the dots from p on ahead
+
+module _ (t : List ℕ) (all : List Dot) (a p left : ℕ) (e : reach dots a all ≡ reach dots a (dotsAt t p left)) where
+  pub walked-stop : 0 < left → a < u32At t p → Walked all (dotsAt t p left) a 0
+  walked-stop h l =
+      let s = e ∙ stop-dot t a p left (left - 1) (omega arith) (omega arith) in
+      record { counted = counted-other t a p left h (λ q. omega arith) ∙ sym (ap (said dots a) s); later = λ k g. ap (reach dots k) s }
+
+  pub walked-here : (c : ℕ) → 0 < left → u32At t p ≡ a → c ≡ u64At t (p + 4) → Walked all (dotsAt t (p + 12) (left - 1)) a c
+  walked-here c h q f =
+      let s = e ∙ stop-dot t a p left (left - 1) (omega arith) (omega arith) in
+      record { counted = f ∙ counted-first t a p left h q ∙ sym (ap (said dots a) s); later = λ k g. ap (reach dots k) s ∙ skip-dot t k p (p + 12) left (left - 1) (omega arith) refl (omega arith) }
+
+  pub walked-end : left ≤ 0 → Walked all (dotsAt t p left) a 0
+  walked-end h =
+      let s = e ∙ end-dot t a p left h in
+      record { counted = sym (counted-none t a p left h) ∙ sym (ap (said dots a) s); later = λ k g. ap (reach dots k) s }
+
+-- ---- the three loops
+
+-- our dots beside two clocks that are the same from the first of our actors on
+along-later : (s : List ℕ) (p n actor : ℕ) (cs rest : List Dot) → (0 < n → actor < u32At s p) → ((k : ℕ) → actor < k → reach dots k cs ≡ reach dots k rest)
+    → along dots (map (λ d. actorOf d) (dotsAt s p n)) cs ≡ along dots (map (λ d. actorOf d) (dotsAt s p n)) rest
+unfolding listAt dotIn
+along-later s p zero actor cs rest h f = refl
+along-later s p (suc n) actor cs rest h f = ap (λ (l : List Dot). said dots (u32At s p) l ∷ along dots (map (λ d. actorOf d) (dotsAt s (p + 12) n)) l) (f (u32At s p) (h (omega arith)))
+
+-- dots that rise: each actor is below the next
+rising-next : (s : List ℕ) (p low n k : ℕ) → rising low (dotsAt s p n) ≡ true → k + 1 < n → u32At s (p + 12 * k) < u32At s (p + 12 * (k + 1))
+unfolding dotIn
+rising-next s p low n zero r h =
+    let f = first-of low (dotAt s p) (dotsAt s (p + 12) (n - 1)) (rw (list-step dotAt (λ s p. p + 12) s p n (n - 1) (omega arith)) at r) in
+    let g = first-of (u32At s p + 1) (dotAt s (p + 12)) (dotsAt s (p + 12 + 12) (n - 2)) (rw (list-step dotAt (λ s p. p + 12) s (p + 12) (n - 1) (n - 2) (omega arith)) at (f .others)) in
+    let x : p + 12 * 0 ≡ p = omega arith in
+    let y : p + 12 * (0 + 1) ≡ p + 12 = omega arith in
+    rw (x, y) (omega (arith, g .from))
+rising-next s p low n (suc k) r h =
+    let f = first-of low (dotAt s p) (dotsAt s (p + 12) (n - 1)) (rw (list-step dotAt (λ s p. p + 12) s p n (n - 1) (omega arith)) at r) in
+    let x : p + 12 * (suc k) ≡ p + 12 + 12 * k = omega arith in
+    let y : p + 12 * (suc k + 1) ≡ p + 12 + 12 * (k + 1) = omega arith in
+    rw (x, y) (rising-next s (p + 12) (u32At s p + 1) (n - 1) k (f .others) (omega arith))
+
+pub next-above : (s : List ℕ) (p n k actor : ℕ) → Stands s (p + 4) → n ≡ u32At s (p + 4) → actor ≡ u32At s (p + 8 + 12 * k) → k + 1 < n → actor < u32At s (p + 8 + 12 * (k + 1))
+unfolding clockIn
+next-above s p n k actor h e f l =
+    let x : p + 4 + 4 ≡ p + 8 = omega arith in
+    rw f (rising-next s (p + 8) 0 n k (rw (x, ← e) at (h .rises)) l)
 
 module _ (a ours : List ℕ) (na : ℕ) (b theirs : List ℕ) (nb : ℕ) where
   abbrev they : List Entry
@@ -68,8 +121,8 @@ module _ (a ours : List ℕ) (na : ℕ) (b theirs : List ℕ) (nb : ℕ) where
           unfolding atActors atTheirs
           dot-end h = rw (list-end dotAt (λ s p. p + 12) a (p + 8 + 12 * k) (n - k) (omega arith))
 
-          module _ (actor counter z others got : ℕ) (r : Bool) (h : k < n) (ea : actor ≡ u32At a (p + 8 + 12 * k)) (ec : counter ≡ u64At a (p + 8 + 12 * k + 4)) (sk : reach dots actor (dotsAt b y left) ≡ dotsAt b z others)
-              (eg : got ≡ said dots actor (dotsAt b z others)) (er : r ≡ (not (eqb our their) && eqb got counter)) where
+          module _ (actor counter z others got : ℕ) (r : Bool) (h : k < n) (ea : actor ≡ u32At a (p + 8 + 12 * k)) (ec : counter ≡ u64At a (p + 8 + 12 * k + 4))
+              (up : k + 1 < n → actor < u32At a (p + 8 + 12 * (k + 1))) (w : Walked (dotsAt b y left) (dotsAt b z others) actor got) (er : r ≡ (not (eqb our their) && eqb got counter)) where
             abbrev ahead-here : List Sight
             ahead-here = sights our their (dotsAt a (p + 8 + 12 * (k + 1)) (n - (k + 1))) (dotsAt b z others) ++ (sightsBeside (rowAt a p) (map (rowAt b) (slice (j + 1) nb theirs)) ++ later i)
 
@@ -77,7 +130,8 @@ module _ (a ours : List ℕ) (na : ℕ) (b theirs : List ℕ) (nb : ℕ) where
             unfolding dotIn
             turn =
                 let x : p + 8 + 12 * k + 12 ≡ p + 8 + 12 * (k + 1) = omega arith in
-                rw (list-step dotAt (λ s p. p + 12) a (p + 8 + 12 * k) (n - k) (n - (k + 1)) (omega arith), ← ea, ← ec, sk, ← eg, x)
+                let f = along-later a (p + 8 + 12 * (k + 1)) (n - (k + 1)) actor (reach dots actor (dotsAt b y left)) (dotsAt b z others) (λ l. up (omega arith)) (w .later) in
+                rw (list-step dotAt (λ s p. p + 12) a (p + 8 + 12 * k) (n - k) (n - (k + 1)) (omega arith), ← ea, ← ec, x, f, ← (w .counted))
 
             pub dot-here : r ≡ true → atActors i p our n j their k y left ≡ DoubleSpent (record { dot = dot actor counter; our = record { 0 = our }; their = record { 0 = their } })
             unfolding atActors spotted
@@ -86,3 +140,10 @@ module _ (a ours : List ℕ) (na : ℕ) (b theirs : List ℕ) (nb : ℕ) where
             pub dot-next : r ≡ false → atActors i p our n j their k y left ≡ atActors i p our n j their (k + 1) z others
             unfolding atActors spotted
             dot-next t = rw (turn, ← er, t)
+
+-- the clock of an entry at a place
+pub clock-at : (s places : List ℕ) (n i p : ℕ) → Stand s places n → i < n → p ≡ getD places i 0 → Stands s (p + 4)
+clock-at s places n i p h l e = rw e (h .clock i l)
+
+pub dots-inside : (s : List ℕ) (p m : ℕ) → Stands s (p + 4) → m ≡ u32At s (p + 4) → p + 8 + 12 * m ≤ length s
+dots-inside s p m h f = omega (arith, h .room, f)

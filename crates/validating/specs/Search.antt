@@ -1,14 +1,18 @@
 -- The search in the order of the loops: each of our dots is seen beside their clock, in one walk along both.
-use Prim.Native.Nat.{ℕ}
+use Prim.Native.Nat.{ℕ, _+_, _<_}
+use mathlib.Core.Path.{_≡_}
 use mathlib.Core.Bool.{Bool, not, _&&_}
 use mathlib.Core.Option.{Option, none, some}
 use mathlib.Core.List.{List, [], _∷_, _++_, map}
 use lib.Dec.{eqb}
+use lib.ListN.{getD}
+use Rattle.tables.specs.Zip.{said}
 use Rattle.dots.specs.declared.Dot.{Dot}
 use Rattle.dots.specs.Dot.{actorOf, dots}
 use Rattle.dots.specs.Clock.{Clock}
 use Rattle.replica.specs.Replica.{Entry}
-use Rattle.kills.specs.Lines.{along}
+use Rattle.layout.specs.Kit.{Stands}
+use Rattle.kills.specs.Lines.{reach, along}
 use Rattle.validating.specs.declared.Validation.{Validation}
 use Rattle.validating.specs.declared.Validation.the-variants.{Valid, DoubleSpent}
 
@@ -47,3 +51,12 @@ sightsOf (o ∷ os) ts = sightsBeside o ts ++ sightsOf os ts
 abbrev pub verdict : Option Sight → Validation
 verdict none = Valid
 verdict (some s) = DoubleSpent (record { dot = s .dot; our = record { 0 = s .our }; their = record { 0 = s .their } })
+
+-- each of the n entries at places has its clock inside the bytes
+pub record Stand (s places : List ℕ) (n : ℕ) : Type 0 where
+  pub clock : (i : ℕ) → i < n → Stands s (getD places i 0 + 4)
+
+-- their dots, walked along past an actor: what they say of it, and for each later one the rest is as good as all
+pub record Walked (all rest : Clock) (actor count : ℕ) : Type 0 where
+  pub counted : count ≡ said dots actor (reach dots actor all)
+  pub later : (k : ℕ) → actor < k → reach dots k (reach dots actor all) ≡ reach dots k rest

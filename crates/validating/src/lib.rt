@@ -4,15 +4,13 @@ ghost use mathlib.Core.Bool.{not, _&&_};
 ghost use mathlib.Core.List.{map};
 ghost use Prim.Native.Nat.{_+_, _-_, _*_, _<_, _≤_};
 ghost use lib.Dec.{eqb};
-ghost use lib.ListN.{take};
-ghost use Rattle.tables.specs.Zip.{said};
-ghost use Rattle.dots.specs.Dot.{dots};
+ghost use lib.ListN.{length, take};
 ghost use Rattle.replica.specs.Validate.{first};
+ghost use Rattle.layout.specs.Fields.{u32At, u64At};
 ghost use Rattle.layout.specs.Clock.{dotsAt};
 ghost use Rattle.layout.specs.Rows.{rowAt};
-ghost use Rattle.kills.specs.Posts.{Skipped};
 ghost use Rattle.validating.specs.Calls.{validationSays, validateMergeCall};
-ghost use Rattle.validating.specs.Search.{spotted, sightsOf, verdict};
+ghost use Rattle.validating.specs.Search.{spotted, sightsOf, verdict, Stand, Walked};
 use dots::Actor;
 use dots::Dot;
 use dots::Member;
@@ -71,34 +69,59 @@ fn reportable(our: u32, their: u32, counter: u64, count: u64) -> bool
     count == counter
 }
 
-// How many of the dots from a place on have an actor below a.
-fn dots_below(s: &[u8], p: usize, left: usize, a: u32) -> usize
-    requires { ⌜ p + 12 * left < 281474976710656 ⌝ }
-    ensures { λ r. ⌜ Skipped dots (dotsAt (now (s .entry)) p left) (dotsAt (now (s .entry)) (p + 12 * r) (left - r)) a left r ⌝ }
+// The 32-bit number at a place that lies inside: of a part of known length, nothing is tested when the code runs.
+fn u32_in(s: &[u8], at: usize) -> u32
+    requires { ⌜ at + 4 ≤ length (now s) ⌝ }
+    ensures { λ r. ⌜ r ≡ u32At (now (s .entry)) at ⌝ }
 {
-    let mut i: usize = 0;
-    while i < left {
-        if u32_at(s, p + 12 * i) < a {
-            i += 1;
-        } else {
-            return i;
-        }
-    }
-    i
+    u32_at(&s[at..at + 4], 0)
 }
 
-// The counter of the first of the dots from a place on, if its actor is a.
-fn first_count(s: &[u8], p: usize, left: usize, a: u32) -> u64
-    requires { ⌜ p < 281474976710656 ⌝ }
-    ensures { λ r. ⌜ r ≡ said dots a (dotsAt (now (s .entry)) p left) ⌝ }
+// The 64-bit number there.
+fn u64_in(s: &[u8], at: usize) -> u64
+    requires { ⌜ at + 8 ≤ length (now s) ⌝ }
+    ensures { λ r. ⌜ r ≡ u64At (now (s .entry)) at ⌝ }
 {
-    if left == 0 {
-        return 0;
+    u64_at(&s[at..at + 8], 0)
+}
+
+// Their dots that may be of a later actor of ours, and how far they count the one that was asked for.
+struct Ahead {
+    place: usize,
+    left: usize,
+    count: u64,
+}
+
+// Walks along the dots from a place on, past those of an actor up to a.
+fn walk_past(s: &[u8], p: usize, left: usize, a: u32) -> Ahead
+    requires { ⌜ p + 12 * left ≤ length (now s) ⌝ }
+    ensures { λ r. ⌜ Walked (dotsAt (now (s .entry)) p left) (dotsAt (now (s .entry)) (r .place) (r .left)) a (r .count) × (r .place + 12 * r .left ≡ p + 12 * left) ⌝ }
+{
+    let mut place = p;
+    let mut ahead = left;
+    while 0 < ahead {
+        let actor = u32_in(s, place);
+        if a < actor {
+            return Ahead {
+                place,
+                left: ahead,
+                count: 0,
+            };
+        }
+        if actor == a {
+            return Ahead {
+                place: place + 12,
+                left: ahead - 1,
+                count: u64_in(s, place + 4),
+            };
+        }
+        place += 12;
+        ahead -= 1;
     }
-    if u32_at(s, p) == a {
-        u64_at(s, p + 4)
-    } else {
-        0
+    Ahead {
+        place,
+        left: ahead,
+        count: 0,
     }
 }
 
@@ -111,7 +134,7 @@ fn first_spent(
     theirs: [u32; 64],
     nb: usize,
 ) -> Validation
-    requires { ⌜ (na ≤ 64) × (nb ≤ 64) ⌝ }
+    requires { ⌜ (na ≤ 64) × (nb ≤ 64) × Stand (now a) ours na × Stand (now b) theirs nb ⌝ }
     ensures { λ r. ⌜ r ≡ verdict (first spotted (sightsOf (map (rowAt (now (a .entry))) (take na ours)) (map (rowAt (now (b .entry))) (take nb theirs)))) ⌝ }
 {
     let mut found = Validation::Valid;
@@ -126,12 +149,12 @@ fn first_spent(
             let mut left = wide(u32_at(b, q + 4));
             'actors: for k in 0..n {
                 let x = p + 8 + 12 * k;
-                let actor = u32_at(a, x);
-                let counter = u64_at(a, x + 4);
-                let below = dots_below(b, y, left, actor);
-                y += 12 * below;
-                left -= below;
-                if reportable(our, their, counter, first_count(b, y, left, actor)) {
+                let actor = u32_in(a, x);
+                let counter = u64_in(a, x + 4);
+                let r = walk_past(b, y, left, actor);
+                y = r.place;
+                left = r.left;
+                if reportable(our, their, counter, r.count) {
                     found = Validation::DoubleSpent(Spent {
                         dot: Dot {
                             actor: Actor(actor),
