@@ -11,7 +11,7 @@ use lib.Seq.{sets, length-sets}
 use Rattle.tables.specs.Table.{pick, cons?}
 use Rattle.tables.specs.Zip.{said, past}
 use Rattle.dots.specs.declared.Dot.{Dot}
-use Rattle.dots.specs.Dot.{dots, dot?, dot}
+use Rattle.dots.specs.Dot.{dots, dot?}
 use Rattle.dots.specs.Clock.{Clock}
 use Rattle.layout.specs.Fields.{u32At, u64At, le32, le64, length-le32, length-le64}
 use Rattle.layout.specs.Lists.{bytesOf}

@@ -6,7 +6,6 @@ use lib.ListN.{length, getD}
 use lib.Seq.{sets}
 use Rattle.tables.specs.Table.{cons?}
 use Rattle.tables.specs.Zip.{said, past}
-use Rattle.dots.specs.declared.Dot.{Dot}
 use Rattle.dots.specs.Dot.{dots, dot?}
 use Rattle.dots.specs.Clock.{Clock}
 use Rattle.layout.specs.Clock.{dotsAt, encodeDots}

@@ -9,7 +9,6 @@ use lib.ListN.{length, getD}
 use lib.Seq.{sets}
 use Rattle.tables.specs.Table.{Normal, All, pick, cons?}
 use Rattle.tables.specs.Zip.{Rise, turnOf, left-after, right-after, Ascend}
-use Rattle.dots.specs.declared.Dot.{Dot}
 use Rattle.dots.specs.Dot.{clocks, dot}
 use Rattle.dots.specs.Clock.{Clock}
 use Rattle.dots.specs.Covering.{coverOf}

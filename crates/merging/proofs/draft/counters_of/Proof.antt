@@ -3,7 +3,6 @@ use mathlib.Core.List.{map}
 use Prim.Native.Nat.{_-_, _≤_}
 use native.Mathlib.Omega.{arith}
 use lib.ListN.{length, take, length-set}
-use Rattle.clocks.specs.VClock.{dotsOf}
 use Rattle.clocks.proofs.Steps.{mapped}
 use Rattle.merging.proofs.DraftSteps.{taken-on}
 use borrow.Author.Needs.{needs}

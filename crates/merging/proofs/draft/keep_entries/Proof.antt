@@ -1,5 +1,4 @@
 use mathlib.Core.Path.{_∙_}
-use native.Mathlib.Omega.{arith}
 use Rattle.merging.proofs.Sides.{ready-of}
 use borrow.Author.Needs.{needs}
 use Rattle.merging.proofs.draft.keep_entries.Statement.{statement}

@@ -1,9 +1,7 @@
-use mathlib.Core.Path.{_≡_, refl, ap₂, subst}
-use Prim.Native.Nat.{ℕ, _-_, _+_, _*_, max}
+use Prim.Native.Nat.{_-_, _+_, _*_}
 use native.Mathlib.Omega.{arith}
-use lib.ListN.{length, getD}
 use Rattle.layout.specs.Clock.{dotsAt}
-use Rattle.merging.specs.Keeping.{linesFrom, keptAlong, KeptDot}
+use Rattle.merging.specs.Keeping.{linesFrom, keptAlong}
 use Rattle.merging.proofs.KeepSteps.{Keeping, keep-begin, keep-again, keep-end}
 use borrow.Author.Needs.{needs}
 use Rattle.merging.proofs.entries.kept.Statement.{statement}

@@ -1,11 +1,9 @@
-use mathlib.Core.Path.{_≡_, refl, sym, ap, _∙_}
-use Prim.Native.Nat.{_+_, _*_, _-_, _≤_, _<_}
+use Prim.Native.Nat.{_+_}
 use native.Mathlib.Omega.{arith}
 use lib.ListN.{take}
 use Rattle.layout.specs.Rows.{rowsEnd}
 use Rattle.layout.specs.Image.{imageOf}
 use Rattle.merging.proofs.RowLoop.{Rowing, rows-begin, rows-again, rows-end}
-use borrow.Author.Needs.{needs}
 use Rattle.merging.proofs.entries.merge_entries.Statement.{statement}
 use Rattle.merging.proofs.entries.merge_entries.Tie as tie
 

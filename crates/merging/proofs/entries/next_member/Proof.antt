@@ -1,5 +1,5 @@
-use mathlib.Core.Path.{_≡_, ap₂, sym, _∙_, subst}
-use Prim.Native.Nat.{ℕ, _<_, _+_, min}
+use mathlib.Core.Path.{ap₂, _∙_}
+use Prim.Native.Nat.{min}
 use native.Mathlib.Omega.{arith}
 use Rattle.merging.proofs.RowSteps.{least-small}
 use borrow.Author.Needs.{needs}

@@ -1,8 +1,5 @@
 use native.Mathlib.Omega.{arith}
-use mathlib.Core.Path.{refl, sym, ap, _∙_}
-use mathlib.Core.List.{_++_}
-use lib.ListN.{length}
-use lib.Seq.{sets}
+use mathlib.Core.Path.{sym}
 use Rattle.tables.specs.Stores.{sets-append}
 use Rattle.layout.specs.Lists.{bytesOf}
 use Rattle.layout.specs.Fields.{length-le32}

@@ -1,4 +1,3 @@
-use mathlib.Core.List.{_++_}
 use borrow.Author.Tests.{eq-eqb, ne-eqb}
 use Rattle.tables.specs.Stores.{sets-append}
 use Rattle.layout.specs.Fields.{length-le32}

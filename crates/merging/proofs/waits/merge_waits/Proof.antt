@@ -1,11 +1,10 @@
-use Prim.Native.Nat.{_+_, _≤_, _<_}
+use Prim.Native.Nat.{_+_}
 use native.Mathlib.Omega.{arith}
 use Rattle.layout.specs.Rows.{waitsAt}
 use Rattle.changing.specs.KeptWaits.{keptWaits}
 use Rattle.merging.specs.Waiting.{dotsFrom}
 use Rattle.merging.proofs.WaitSteps.{end-ge}
 use Rattle.merging.proofs.WaitLoop.{Waiting, waits-begin, waits-ahead, waits-again, waits-done}
-use borrow.Author.Needs.{needs}
 use Rattle.merging.proofs.waits.merge_waits.Statement.{statement}
 use Rattle.merging.proofs.waits.merge_waits.Tie as tie
 

@@ -1,6 +1,5 @@
 use borrow.Author.Tests.{eq-eqb, ne-eqb}
 use Rattle.merging.proofs.WaitSteps.{put-size}
-use borrow.Author.Needs.{needs}
 use Rattle.merging.proofs.waits.put_next.Statement.{statement}
 use Rattle.merging.proofs.waits.put_next.Tie as tie
 

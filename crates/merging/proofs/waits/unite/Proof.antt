@@ -1,10 +1,8 @@
-use Prim.Native.Nat.{_+_, _*_, _≤_, _<_}
+use Prim.Native.Nat.{_+_}
 use native.Mathlib.Omega.{arith}
 use Rattle.layout.specs.Rows.{membersAt}
 use Rattle.changing.specs.KeptWaits.{bothSets}
-use Rattle.merging.specs.Waiting.{MembersReady}
 use Rattle.merging.proofs.NameSteps.{Naming, names-begin, names-again, names-end}
-use borrow.Author.Needs.{needs}
 use Rattle.merging.proofs.waits.unite.Statement.{statement}
 use Rattle.merging.proofs.waits.unite.Tie as tie
 
