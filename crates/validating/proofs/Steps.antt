@@ -39,10 +39,10 @@ module _ (t : List ℕ) (all : List Dot) (a p left : ℕ) (e : reach dots a all 
       let s = e ∙ stop-dot t a p left (left - 1) (omega arith) (omega arith) in
       record { counted = f ∙ counted-first t a p left h q ∙ sym (ap (said dots a) s); later = λ k g. ap (reach dots k) s ∙ skip-dot t k p (p + 12) left (left - 1) (omega arith) refl (omega arith) }
 
-  pub walked-end : left ≤ 0 → Walked all (dotsAt t p left) a 0
-  walked-end h =
-      let s = e ∙ end-dot t a p left h in
-      record { counted = sym (counted-none t a p left h) ∙ sym (ap (said dots a) s); later = λ k g. ap (reach dots k) s }
+  pub walked-end : (q : ℕ) → left ≤ 0 → Walked all (dotsAt t q 0) a 0
+  walked-end q h =
+      let s = e ∙ end-dot t a p left h ∙ list-end dotAt (λ s p. p + 12) t p left h ∙ sym (list-end dotAt (λ s p. p + 12) t q 0 (omega arith)) in
+      record { counted = sym (counted-none t a q 0 (omega arith)) ∙ sym (ap (said dots a) s); later = λ k g. ap (reach dots k) s }
 
 -- ---- the three loops
 

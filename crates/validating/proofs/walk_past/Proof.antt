@@ -20,7 +20,7 @@ loop-holds : tie.Need-loop-holds Inv-loop μ-loop
 loop-holds c = (refl, refl)
 
 returns : tie.Need-returns Inv-loop μ-loop
-returns c = let v = c .before .before .before .loop .inv in (walked-stop _ _ _ _ _ (v .1) (omega arith) (omega arith), v .0)
+returns c = let v = c .before .before .before .loop .inv in (walked-stop _ _ _ _ _ (v .1) (omega arith) (omega arith), omega arith)
 
 returns-2 : tie.Need-returns-2 Inv-loop μ-loop
 returns-2 c =
@@ -33,7 +33,7 @@ loop-again c =
     (omega arith, v .1 ∙ skip-dot _ _ _ _ _ _ (omega arith) (omega arith) (omega arith))
 
 returns-3 : tie.Need-returns-3 Inv-loop μ-loop
-returns-3 c = let v = c .before .loop .inv in (walked-end _ _ _ _ _ (v .1) (omega arith), v .0)
+returns-3 c = let v = c .before .loop .inv in (walked-end _ _ _ _ _ (v .1) _ (omega arith), omega arith)
 
 pub walk-past-spec : {M : Type 1} → statement M
 walk-past-spec =
