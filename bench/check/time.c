@@ -1,12 +1,9 @@
 /* Times the check of the longest image: 64 entries of 16 dots, 16 waiting removes of 32 members, 18,268 bytes. */
-#include <stddef.h>
-#include <stdint.h>
 #include <stdio.h>
 #include <time.h>
+#include "gatelichen.h"
 
-uint32_t check_speed(const uint8_t *image, size_t length);
-
-static uint8_t image[18268];
+static uint8_t image[GATELICHEN_IMAGE_MAX];
 static size_t length;
 
 static void put16(uint32_t v) { image[length++] = (uint8_t)v; image[length++] = (uint8_t)(v >> 8); }
@@ -29,9 +26,9 @@ int main(void) {
         put32(32);
         for (uint32_t i = 0; i < 32; i++) put32(2 * i + remove % 2);
     }
-    if (check_speed(image, length) != 0) { puts("the image is not well-formed"); return 1; }
+    if (gatelichen_check(image, length) != 0) { puts("the image is not well-formed"); return 1; }
     clock_t start = clock();
-    for (int i = 0; i < TIMES; i++) { check_speed(image, length); __asm__ volatile("" ::: "memory"); }
+    for (int i = 0; i < TIMES; i++) { gatelichen_check(image, length); __asm__ volatile("" ::: "memory"); }
     printf("%.1f microseconds of processor time for a check of %zu bytes\n", (double)(clock() - start) / CLOCKS_PER_SEC * 1e6 / TIMES, length);
     return 0;
 }
