@@ -8,6 +8,7 @@ use lib.ListN.{length}
 use lib.Seq.{sets}
 use borrow.Author.Tests.{ne-eqb, lt-ltb, le-ltb}
 use Rattle.tables.specs.Table.{pick}
+use Rattle.clocks.specs.declared.VClock.{VClock}
 use Rattle.clocks.specs.VClock.{dotsOf}
 use Rattle.replica.specs.Limits.{full}
 use Rattle.layout.specs.Clock.{encodeClock}
@@ -17,6 +18,8 @@ use Rattle.image.specs.declared.ClockAnswer.{ClockAnswer}
 use Rattle.image.specs.Image.{clockCall}
 use Rattle.results.specs.declared.Written.{Written}
 use Rattle.results.specs.Call.{Call, numberOf, answered, answerOf, outputOf, Meets}
+use Rattle.operations.specs.declared.Op.{Op}
+use Rattle.operations.specs.Calls.{applyCall, resetCall}
 use Rattle.reading.specs.declared.ReadAnswer.{ReadAnswer}
 use Rattle.reading.specs.declared.MembersAnswer.{MembersAnswer}
 use Rattle.reading.specs.Calls.{containsCall, membersRead, readNumber, membersAnswer, readCall, readOutput, ReadMeets}
@@ -45,6 +48,13 @@ module _ (before after : List ℕ) (r : ℕ) where
     answer = e ∙ ap (λ (x : Written). x .no * 4294967296 + x .len) (m .answer);
     output = m .output ∙ picked (eqb (numberOf full c (length before)) 0) before (encode (c .result));
   }
+
+  -- the same by a clock argument, which is v
+  pub apply-replies : (s : List ℕ) (op : Op) (ms : List ℕ) (v c : VClock) (w : Written) → c ≡ v → Meets full (applyCall s op c ms) before w after → r ≡ w .no * 4294967296 + w .len → Replies (replicaReply (applyCall s op v ms) (length before)) before r after
+  apply-replies s op ms v c w e m f = rw (← e) (replica-replies (applyCall s op c ms) w m f)
+
+  pub reset-replies : (s : List ℕ) (v c : VClock) (w : Written) → c ≡ v → Meets full (resetCall s c) before w after → r ≡ w .no * 4294967296 + w .len → Replies (replicaReply (resetCall s v) (length before)) before r after
+  reset-replies s v c w e m f = rw (← e) (replica-replies (resetCall s c) w m f)
 
   pub read-replies : (s : List ℕ) (x : MembersAnswer) → ReadMeets s before x after → r ≡ x .no * 4294967296 + x .count → Replies (readReply s (length before)) before r after
   unfolding readReply reply readCall membersAnswer readOutput

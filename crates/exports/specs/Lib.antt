@@ -1,3 +1,4 @@
 pub mod Reply
 pub mod Lent
 pub mod Calls
+pub mod Laws

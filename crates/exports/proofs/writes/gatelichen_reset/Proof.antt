@@ -1,5 +1,5 @@
 use native.Mathlib.Omega.{arith}
-use Rattle.exports.proofs.Replied.{replica-replies}
+use Rattle.exports.proofs.Replied.{reset-replies}
 use Rattle.exports.proofs.Short.{reset-short}
 use borrow.Author.Needs.{needs}
 use Rattle.exports.proofs.writes.gatelichen_reset.Statement.{statement}
@@ -9,7 +9,7 @@ written-requires : tie.Need-written-requires
 written-requires c κs = omega (arith, reset-short _ _ _ _ _ (c .before .before .reset-remove .ensures))
 
 returns : tie.Need-returns
-returns c = rw (← c .before .before .before .before .before .clock-lent .ensures) (replica-replies _ _ _ _ _ (c .before .before .before .reset-remove .ensures) (c .written .ensures))
+returns c = reset-replies _ _ _ _ _ _ _ (c .before .before .before .before .before .clock-lent .ensures) (c .before .before .before .reset-remove .ensures) (c .written .ensures)
 
 pub gatelichen-reset-spec : {M : Type 1} → statement M
 gatelichen-reset-spec =
