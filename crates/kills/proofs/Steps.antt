@@ -131,11 +131,11 @@ taken z xs n e h = rw (sets-eq xs z 0 (omega arith)) (take-at xs (drop (0 + leng
 
 -- ---- all waiting removes
 
-pub wait-turn : (v : Clock) (ms t waits out out′ line : List ℕ) (n i q at : ℕ) → i < n → n ≤ length waits → q ≡ getD waits i 0 → line ≡ lineOf v (clockRead t q) → at ≡ clockEnd t q
+pub wait-turn : (v : Clock) (ms t waits out out′ line : List ℕ) (n i q at : ℕ) → i < n → n ≤ length waits → q ≡ getD waits i 0 → line ≡ lineOf v (clockRead t (getD waits i 0)) → at ≡ clockEnd t q
     → out′ ≡ raised out 0 (along memberRows ms (membersAt t (at + 4) (min (u32At t at) 64))) line
     → killLines v ms (map (λ p. waitRead t p) (slice (i + 1) n waits)) out′ ≡ killLines v ms (map (λ p. waitRead t p) (slice i n waits)) out
 unfolding killLines waitRead
-wait-turn v ms t waits out out′ line n i q at h k e f g w = rw (ahead waits i n 0 h k, ← e, w, f, g)
+wait-turn v ms t waits out out′ line n i q at h k e f g w = rw (ahead waits i n 0 h k, w, f, g, e)
 
 pub wait-end : (v : Clock) (ms t waits out : List ℕ) (n i : ℕ) → n ≤ i → killLines v ms (map (λ p. waitRead t p) (slice i n waits)) out ≡ out
 unfolding killLines

@@ -32,6 +32,33 @@ fn at_most(n: usize, most: usize) -> usize
     if n < most { n } else { most }
 }
 
+// The actors of v, each with its counter in the clock at a place.
+pub fn line_at(t: &[u8], at: u32, v: VClock) -> [Dot; 16]
+    ensures { λ r. ⌜ numbers r ≡ lineOf (dotsOf v) (clockRead (now (t .entry)) at) ⌝ }
+{
+    let n = at_most(v.len, 16);
+    let mut line = [Dot {
+        actor: Actor(0),
+        counter: 0,
+    }; 16];
+    let q = wide(at);
+    let mut p = q + 4;
+    let mut left = at_most(wide(u32_at(t, q)), 16);
+    let mut i: usize = 0;
+    while i < n {
+        let a = v.dots[i].actor.0;
+        let r = skip_dots(t, p, left, a);
+        p += 12 * r;
+        left -= r;
+        line[i] = Dot {
+            actor: Actor(a),
+            counter: counted(t, p, left, a),
+        };
+        i += 1;
+    }
+    line
+}
+
 // How many of the dots from a place on have an actor below a.
 fn skip_dots(t: &[u8], p: usize, left: usize, a: u32) -> usize
     requires { ⌜ p + 12 * left < 281474976710656 ⌝ }
@@ -61,33 +88,6 @@ fn counted(t: &[u8], p: usize, left: usize, a: u32) -> u64
     } else {
         0
     }
-}
-
-// The actors of v, each with its counter in the clock at a place.
-fn line_at(t: &[u8], at: usize, v: VClock) -> [Dot; 16]
-    requires { ⌜ at < 4294967296 ⌝ }
-    ensures { λ r. ⌜ numbers r ≡ lineOf (dotsOf v) (clockRead (now (t .entry)) at) ⌝ }
-{
-    let n = at_most(v.len, 16);
-    let mut line = [Dot {
-        actor: Actor(0),
-        counter: 0,
-    }; 16];
-    let mut p = at + 4;
-    let mut left = at_most(wide(u32_at(t, at)), 16);
-    let mut i: usize = 0;
-    while i < n {
-        let a = v.dots[i].actor.0;
-        let r = skip_dots(t, p, left, a);
-        p += 12 * r;
-        left -= r;
-        line[i] = Dot {
-            actor: Actor(a),
-            counter: counted(t, p, left, a),
-        };
-        i += 1;
-    }
-    line
 }
 
 fn larger(x: u64, y: u64) -> u64
@@ -196,8 +196,9 @@ pub fn kill_lines(
     let ms = members_at(s, places, entries);
     let mut i: usize = 0;
     while i < number {
-        let q = wide(waits[i]);
-        let line = line_at(t, q, v);
+        let at = waits[i];
+        let line = line_at(t, at, v);
+        let q = wide(at);
         let members = q + 4 + 12 * wide(u32_at(t, q));
         raise_named(&ms, entries, t, members, line, out);
         i += 1;

@@ -26,7 +26,7 @@ loop-again c =
     let a = c .before .before .before .before .before .before .before .before .before .before .before .before .before .before .args in
     let l = c .before .before .before .before .before .before .before .before .loop in
     let n = c .before .before .before .before .before .before .before .before .before .before .at-most2 .result in
-    (search needs, search needs, wait-turn (dotsOf (a .v)) _ (a .t .now) (a .t5) (l .out) _ _ n (l .i) (c .before .before .before .before .before .before .wide .result) _ (omega arith) (omega arith) (c .before .before .before .before .before .before .wide .ensures .0) (c .before .before .before .before .before .line-at .ensures) (end-of (a .t .now) (c .before .before .before .before .before .before .wide .result) (c .before .before .before .wide2 .result) (c .before .before .before .wide2 .ensures .0 ∙ c .before .before .before .before .u32-at .ensures)) (c .raise-named .ensures) ∙ l .inv .2)
+    (search needs, search needs, wait-turn (dotsOf (a .v)) _ (a .t .now) (a .t5) (l .out) _ _ n (l .i) (c .before .before .before .before .before .wide .result) _ (omega arith) (omega arith) (c .before .before .before .before .before .wide .ensures .0) (c .before .before .before .before .before .before .line-at .ensures) (end-of (a .t .now) (c .before .before .before .before .before .wide .result) (c .before .before .before .wide2 .result) (c .before .before .before .wide2 .ensures .0 ∙ c .before .before .before .before .u32-at .ensures)) (c .raise-named .ensures) ∙ l .inv .2)
 
 returns : tie.Need-returns Inv-loop μ-loop
 unfolding membersOf waitsOf
