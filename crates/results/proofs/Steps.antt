@@ -1,24 +1,25 @@
 -- How a draft is judged and written, case by case.
-use Prim.Native.Nat.{ℕ, _+_, _≤_, _<_}
+use Prim.Native.Nat.{ℕ, _+_, _-_, _≤_, _<_, min}
 use mathlib.Core.Path.{_≡_, sym, ap, _∙_}
-use mathlib.Core.Logic.{_⊎_, inl, inr}
 use mathlib.Core.Bool.{false}
 use mathlib.Core.List.{List, [], _++_}
 use native.Mathlib.Omega.{arith}
-use native.Mathlib.Nat.{zero-add}
+use native.Mathlib.Nat.{zero-add, add-suc}
 use native.Mathlib.Numerals.{add-one}
 use lib.Dec.{eqb}
 use lib.ListN.{length, take, set, getD, length-take, drop-of-length-le}
-use lib.Seq.{sets, slice, length-sets, drop-cons, getD-take}
+use lib.Seq.{sets, slice, drop-cons, getD-take}
 use borrow.Author.Tests.{lt-ltb, le-ltb}
 use Rattle.tables.specs.Refusal.{firstOf}
 use Rattle.tables.specs.Stores.{sets-append}
+use Rattle.tables.specs.Zip.{by-lt}
 use Rattle.clocks.specs.declared.VClock.{VClock}
 use Rattle.clocks.specs.VClock.{dotsOf}
 use Rattle.layout.specs.Image.{contents}
 use Rattle.layout.specs.Clock.{encodeClock}
 use Rattle.layout.specs.Round.{length-contents}
 use Rattle.layout.specs.Kit.{length-encodeClock}
+use Rattle.fields.proofs.Steps.{sets-past}
 use Rattle.results.specs.declared.Written.{Written}
 use Rattle.results.specs.declared.Draft.{Draft}
 use Rattle.results.specs.Call.{answered}
@@ -81,20 +82,22 @@ module _ (v : VClock) (d : Draft) (body before : List ℕ) where
         output = rw e (r ∙ rw (f, q, p) (sym s));
       }
 
-  pub sized : (o1 o2 : List ℕ) → o1 ≡ sets before 0 (contents (d .end) (startOf v) (d .entries) (d .middle) (d .waits)) → o2 ≡ sets o1 24 (encodeClock (dotsOf v)) → length o2 ≡ length before
-  sized o1 o2 p q = ap length q ∙ length-sets o1 24 (encodeClock (dotsOf v)) ∙ ap length p ∙ length-sets before 0 (contents (d .end) (startOf v) (d .entries) (d .middle) (d .waits))
-
 -- ---- the copy
 
-pub copy-on : (body out : List ℕ) (i end : ℕ) → i < end → i < length body → sets (set out i (getD body i 0)) (i + 1) (slice (i + 1) end body) ≡ sets out i (slice i end body)
-copy-on body out i end h k =
-    let e = drop-cons (take end body) i 0 (simp length-take (omega arith)) in
-    let f = getD-take end body i 0 h in
-    rw (add-one, e, f)
+pub less-left : {i n : ℕ} → i < n → n - (i + 1) < n - i
+less-left h = omega arith
 
-pub copy-end : (body out : List ℕ) (i end : ℕ) → (end ≤ i) ⊎ (length body ≤ i) → out ≡ sets out i (slice i end body)
-copy-end body out i end h = let e : slice i end body ≡ [] = drop-of-length-le (take end body) {i = i} (short h) in rw e
-  where
-    short : (end ≤ i) ⊎ (length body ≤ i) → length (take end body) ≤ i
-    short (inl a) = simp length-take (omega arith)
-    short (inr a) = simp length-take (omega arith)
+pub copy-on : (s out : List ℕ) (from end at i : ℕ) → from + i < end → from + i < length s
+    → sets (set out (at + i) (getD s (from + i) 0)) (at + (i + 1)) (slice (from + (i + 1)) end s) ≡ sets out (at + i) (slice (from + i) end s)
+copy-on s out from end at i h k =
+    let e = drop-cons (take end s) (from + i) 0 (simp length-take (omega arith)) in
+    let f = getD-take end s (from + i) 0 h in
+    rw (add-one i, add-suc from i, add-suc at i, e, f)
+
+-- nothing is left where the end is met, that of the bytes or that of the output
+pub copy-end : (s out : List ℕ) (from end at i : ℕ) {n long : ℕ} → n ≡ min (min end (length s) - from) (long - at) → length out ≡ long → n ≤ i
+    → out ≡ sets out (at + i) (slice (from + i) end s)
+copy-end s out from end at i e l h =
+    by-lt (at + i) (length out)
+    (λ k. let e : slice (from + i) end s ≡ [] = drop-of-length-le (take end s) {i = from + i} (simp length-take (omega arith)) in rw e)
+    (λ k. sym (sets-past out (at + i) (slice (from + i) end s) k))

@@ -1,6 +1,6 @@
 // What a call that writes a replica answers, and how its result is finished.
 ghost use mathlib.Core.Path.{_≡_};
-ghost use Prim.Native.Nat.{_+_, _*_, _<_, _≤_};
+ghost use Prim.Native.Nat.{_-_, _<_, min};
 ghost use lib.ListN.{length};
 ghost use lib.Seq.{sets, slice};
 ghost use Rattle.results.specs.Call.{answered};
@@ -36,22 +36,29 @@ fn index(x: u32) -> usize
     x as usize
 }
 
-// The smaller of two places.
-fn before(x: usize, y: usize) -> usize
-    ensures { λ r. ⌜ (r ≤ x) × (r ≤ y) × (x ≤ y → r ≡ x) × (y ≤ x → r ≡ y) ⌝ }
+// The smaller of two numbers.
+fn fewer(x: usize, y: usize) -> usize
+    ensures { λ r. ⌜ r ≡ min x y ⌝ }
 {
     if x < y { x } else { y }
 }
 
-// Writes the bytes of a body from a start up to an end to the same places of the output.
-fn copy(body: &[u8], start: usize, end: usize, out: &mut [u8])
-    requires { ⌜ (start ≤ length (now out)) × (end ≤ length (now out)) ⌝ }
-    ensures { λ _. ⌜ now (out .exit) ≡ sets (now (out .entry)) start (slice start end (now (body .entry))) ⌝ }
+// How far it is from a place up to an end; 0 where the end isn't past it.
+fn apart(from: usize, end: usize) -> usize
+    ensures { λ r. ⌜ r ≡ end - from ⌝ }
 {
-    let stop = before(end, body.len());
-    let mut i = start;
-    while i < stop {
-        out[i] = body[i];
+    if from < end { end - from } else { 0 }
+}
+
+// Writes the bytes of s from a place up to an end to the output, from `at` on: those that s has, as far as the output goes.
+pub fn copy(s: &[u8], from: usize, end: usize, out: &mut [u8], at: usize)
+    ensures { λ _. ⌜ now (out .exit) ≡ sets (now (out .entry)) at (slice from end (now (s .entry))) ⌝ }
+{
+    let given = apart(from, fewer(end, s.len()));
+    let n = fewer(given, apart(at, out.len()));
+    let mut i: usize = 0;
+    while i < n {
+        out[at + i] = s[from + i];
         i += 1;
     }
 }
@@ -83,6 +90,6 @@ pub fn finish(v: VClock, d: Draft, body: &[u8], out: &mut [u8]) -> Written
     }
     fields::put_contents(out, d.end, start as u32, d.entries, d.middle, d.waits);
     fields::put_clock(out, 24, v);
-    copy(body, start, end, out);
+    copy(body, start, end, out, start);
     Written { no: 0, len: end }
 }

@@ -3,7 +3,7 @@ use native.Mathlib.Omega.{arith}
 use lib.ListN.{length}
 use lib.Seq.{length-sets}
 use Rattle.clocks.proofs.Steps.{mapped}
-use Rattle.results.proofs.Steps.{number-6, number-7, number-8, number-9, number-short, number-early, number-none, refuses, grants, sized}
+use Rattle.results.proofs.Steps.{number-6, number-7, number-8, number-9, number-short, number-early, number-none, refuses, grants}
 use borrow.Author.Needs.{needs}
 use Rattle.results.proofs.finish.Statement.{statement}
 use Rattle.results.proofs.finish.Tie as tie
@@ -35,9 +35,6 @@ returns-6 c = refuses _ _ _ _ 10 _ (number-early _ _ _ (c .before .before .befor
 cast-put-contents : tie.Need-cast-put-contents
 cast-put-contents c = let a = c .before .before .before .before .before .before .before .before .before .before .before .if1 .left in omega arith
 
-copy-requires : tie.Need-copy-requires
-copy-requires c κs = let t = c .before .before .before .before .before .before .before .before .before .before .before .if5 .left in let g = c .before .before .before .before .before .before .before .before .before .if6 .left in let p = sized (c .before .before .before .before .before .before .before .before .before .before .before .before .before .before .before .before .before .before .before .before .before .before .before .args .v) (c .before .before .before .before .before .before .before .before .before .before .before .before .before .before .before .before .before .before .before .before .before .before .before .args .d) (c .before .before .before .before .before .before .before .before .before .before .before .before .before .before .before .before .before .before .before .before .before .before .before .args .body .now) _ _ _ (c .before .before .before .before .before .before .before .put-contents .ensures) (c .before .before .before .put-clock .ensures .is) in (omega arith, omega arith)
-
 same-length : tie.Need-same-length
 same-length c = ap length (c .before .before .copy .ensures) ∙ simp length-sets (ap length (c .before .before .before .before .before .before .put-clock .ensures .is) ∙ simp length-sets (ap length (c .before .before .before .before .before .before .before .before .before .before .put-contents .ensures) ∙ simp length-sets))
 
@@ -52,5 +49,5 @@ finish-spec =
     tie.close
     (tie.spec (λ c κs. search needs) returns (λ c κs. search needs) returns-2 (λ c κs. search needs) returns-3
     (λ c κs. search needs) returns-4 (λ c κs. search needs) (λ c κs. search needs) returns-5 mul-start add-start
-    (λ c κs. search needs) returns-6 cast-put-contents (λ c κs. search needs) (λ c κs. search needs) copy-requires
+    (λ c κs. search needs) returns-6 cast-put-contents (λ c κs. search needs) (λ c κs. search needs) (λ c κs. search needs)
     same-length returns-7)
