@@ -11,15 +11,16 @@ use std::hint::black_box;
 use std::time::Instant;
 
 /// A replica whose clock has every actor at 1000: every member with a dot of its own of every actor, and waiting removes of 32
-/// members on a dot that no replica here has seen. Odd members have their dots moved up by `odd`.
-fn replica(members: u32, actors: u32, waiting: u64, odd: u64) -> Replica {
+/// members, the even ones, on a dot that no replica here has seen and on older dots with counters up to `low`. Odd members have their
+/// dots moved up by `odd`, even ones by `even`.
+fn replica(members: u32, actors: u32, waiting: u64, low: u64, even: u64, odd: u64) -> Replica {
     let mut r = Replica { clock: (0..actors).map(|a| (a, 1000)).collect(), ..Default::default() };
     for member in 0..members {
-        let counter = 10 + member as u64 + odd * (member as u64 % 2);
+        let counter = 10 + member as u64 + if member % 2 == 0 { even } else { odd };
         r.entries.insert(member, (0..actors).map(|a| (a, counter)).collect());
     }
     for i in 0..waiting {
-        let low = (1..actors).map(|a| (a, 1));
+        let low = (1..actors).map(|a| (a, low));
         r.waiting.insert(low.chain([(99, 10 + i)]).collect::<Clock>(), (0..32).map(|m| 2 * m).collect());
     }
     r
@@ -119,8 +120,10 @@ fn main() {
     println!("floor: the library checks the inputs and the result's bytes are copied, nothing else");
     println!("memory: the crate on sets already in memory; stored: the crate, decoding its inputs and encoding its result (bincode)\n");
     println!("{:22} {:>8} {:>8} {:>8} {:>8} {:>9} {:>9}", "", "library", "floor", "memory", "stored", "memory/l", "stored/l");
-    for (size, members, actors, waiting) in [("small", 4, 2, 0), ("medium", 16, 4, 0), ("full", 64, 16, 16)] {
-        let (ours, theirs) = (replica(members, actors, waiting, 0), replica(members, actors, waiting, 64));
+    let sizes = [("small", 4, 2, 0, 1, 0), ("medium", 16, 4, 0, 1, 0), ("full", 64, 16, 16, 1, 0), ("crossed", 64, 16, 16, 200, 300)];
+    for (size, members, actors, waiting, low, even) in sizes {
+        let ours = replica(members, actors, waiting, low, even, 0);
+        let theirs = replica(members, actors, waiting, low, even, 64);
         let (image, other) = (ours.encode(), theirs.encode());
         let all: Vec<u32> = (0..members).cycle().take(64).collect();
         let row = |label: &str, call: Call| row(&format!("{size} {label}"), call);
