@@ -6,7 +6,7 @@ use mathlib.Core.List.{List, [], _∷_, map}
 use native.Mathlib.Omega.{arith}
 use native.Mathlib.Nat.{add-zero, zero-add}
 use lib.Dec.{leb, ltb, eqb, T, ltb→lt}
-use lib.ListN.{length, take, getD, replicate, length-map, List·getD-map}
+use lib.ListN.{length, take, getD, replicate, length-map, length-replicate, getD-replicate, List·getD-map}
 use lib.Seq.{sets}
 use borrow.Author.Tests.{lt-leb, eq-eqb, ne-eqb}
 use Rattle.tables.specs.Order.{nat-order, nat-lt, gt-lt}
@@ -32,7 +32,7 @@ use Rattle.layout.specs.Good.{goodClock, goodMembers, goodRows, goodWaits, good
 use Rattle.layout.specs.Kit.{stands, named, clock-normal, place-row, place-good, first-wait, length-startsAt, length-clockAt, each-from}
 use Rattle.layout.specs.Form.{length-listAt}
 use Rattle.layout.specs.Checks.{rows-rise, members-rise, passed}
-use Rattle.kills.specs.Lines.{killLines, membersOf, waitRead, waitsOf}
+use Rattle.kills.specs.Lines.{killTable, membersOf, waitRead, waitsOf}
 use Rattle.kills.specs.Laws.{Ordered, kill-numbers}
 use Rattle.kills.proofs.Steps.{taken}
 use Rattle.image.specs.Fits.{fits, fitAll}
@@ -178,7 +178,7 @@ module _ (s : List ℕ) (start n wstart k : ℕ) (few : n ≤ 64) (waits-few : k
   ws-are = rw taken-starts (waits-are s wstart [] k wg)
 
   abbrev lines : List ℕ
-  lines = killLines (clockAt s 24) (map (λ e. e .member) (rowsAt s start n)) (waitsAt s wstart k) (replicate 1024 0)
+  lines = killTable (clockAt s 24) (map (λ e. e .member) (rowsAt s start n)) (waitsAt s wstart k) (replicate 16 0) (replicate 1024 0)
 
   one : (m : ℕ) → m < n → fits lines (16 * (0 + m)) (clockAt s 24) (clockAt s (getD (placesAt s start n) m 0 + 4)) ≡ goodEntry R (getD (rowsAt s start n) m (record { member = 0; clock = [] }))
   unfolding goodEntry rowIn
@@ -196,7 +196,10 @@ module _ (s : List ℕ) (start n wstart k : ℕ) (few : n ≤ 64) (waits-few : k
       let lv : length u ≤ 16 = let w = stands s 24 cg in let q = length-clockAt s 24 in omega (arith, w .count) in
       let z : 0 + m ≡ m = zero-add m in
       let kn : (j : ℕ) → j < length u → getD lines (16 * m + j) 0 ≡ killsOf ws (u32At s p) (actorOf (getD u j noDot)) =
-      λ j l. kill-numbers u ms (nv .asc) (rows-rise s start 0 n rg) lv (omega arith) ws (waits-ordered s wstart [] k wg) m j (omega arith) l ∙ ap (λ (x : ℕ). killsOf ws x (actorOf (getD u j noDot))) mm in
+      λ j l. let r = kill-numbers u ms (nv .asc) (rows-rise s start 0 n rg) lv (replicate 16 0) (replicate 1024 0) refl (rw (length-replicate {A = ℕ} 1024 0) (omega arith)) ws (waits-ordered s wstart [] k wg) m j (omega arith) l in
+      let z = getD-replicate {A = ℕ} 16 j 0 0 (omega arith) in
+      let e : getD lines (16 * m + j) 0 ≡ killsOf ws (getD ms m 0) (actorOf (getD u j noDot)) = omega arith in
+      e ∙ ap (λ (x : ℕ). killsOf ws x (actorOf (getD u j noDot))) mm in
       rw (z, row) (fits-is lines (λ a. killsOf ws (u32At s p) a) (16 * m) u (clockAt s (p + 4)) (nv .asc) (nc .asc) (positive (clockAt s (p + 4)) nc) kn
       ∙ ap (λ (b : Bool). covers u (clockAt s (p + 4)) && b) (sym (spared-number ws (rowAt s p) (positive (clockAt s (p + 4)) nc))))
     where
@@ -211,11 +214,11 @@ module _ (s : List ℕ) (start n wstart k : ℕ) (few : n ≤ 64) (waits-few : k
 
   -- as the check has it
   pub fit-told : (c : VClock) (places′ : List ℕ) (starts′ t : List ℕ) → c ≡ vclock (clockAt s 24) → places′ ≡ places → starts′ ≡ starts
-      → t ≡ killLines (dotsOf c) (membersOf s places′ n) (waitsOf s starts′ k) (replicate 1024 0)
+      → t ≡ killTable (dotsOf c) (membersOf s places′ n) (waitsOf s starts′ k) (replicate 16 0) (replicate 1024 0)
       → fitAll t s (dotsOf c) 0 (take n places′) ≡ every (goodEntry R) (rowsAt s start n)
   fit-told c places′ starts′ t ec ep es et =
       let v : dotsOf c ≡ clockAt s 24 = ap (λ (x : VClock). dotsOf x) ec ∙ clock-is in
-      let l : t ≡ lines = et ∙ (λ i. killLines (v i) ((ap (λ (x : List ℕ). membersOf s x n) ep ∙ ms-are) i) ((ap (λ (x : List ℕ). waitsOf s x k) es ∙ ws-are) i) (replicate 1024 0)) in
+      let l : t ≡ lines = et ∙ (λ i. killTable (v i) ((ap (λ (x : List ℕ). membersOf s x n) ep ∙ ms-are) i) ((ap (λ (x : List ℕ). waitsOf s x k) es ∙ ws-are) i) (replicate 16 0) (replicate 1024 0)) in
       (λ i. fitAll (l i) s (v i) 0 ((ap (take n) ep ∙ taken-places) i)) ∙ entries-are
 
 -- ---- the whole check
@@ -247,7 +250,7 @@ module _ (s : List ℕ) where
   told x e g = picked-true (λ (y : Image). y .good) (goodParts s) x (imageOfBytes s) noImage e refl g
 
   abbrev Lines : Image → List ℕ → Type 0
-  Lines x t = t ≡ killLines (dotsOf (x .clock)) (membersOf s (x .places) (x .entries)) (waitsOf s (x .starts) (x .waits)) (replicate 1024 0)
+  Lines x t = t ≡ killTable (dotsOf (x .clock)) (membersOf s (x .places) (x .entries)) (waitsOf s (x .starts) (x .waits)) (replicate 16 0) (replicate 1024 0)
 
   abbrev Fit : Image → List ℕ → Bool → Type 0
   Fit x t b = b ≡ fitAll t s (dotsOf (x .clock)) 0 (take (x .entries) (x .places))

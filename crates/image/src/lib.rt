@@ -193,6 +193,7 @@ pub fn check(img: &[u8]) -> Image
             starts,
             x.waits,
             clock,
+            [0u64; 16],
             &mut lines,
         );
         if entries_fit(img, places, x.entries, clock, &lines) {

@@ -4,11 +4,13 @@ use mathlib.Core.Path.{_≡_, refl, sym, ap, _∙_}
 use mathlib.Core.Bool.{Bool, true, false}
 use mathlib.Core.List.{List, [], _∷_, map}
 use native.Mathlib.Omega.{arith}
+use native.Mathlib.Nat.{add-zero, zero-add}
 use native.Mathlib.Numerals.{add-one}
 use lib.Dec.{eqb}
-use lib.ListN.{length, take, drop, set, getD, drop-of-length-le}
-use lib.Seq.{sets, slice, sets-eq, take-all, take-at}
+use lib.ListN.{length, take, drop, set, getD, drop-of-length-le, List·getD-map}
+use lib.Seq.{sets, slice, sets-eq, length-sets, take-all, take-at}
 use borrow.Author.Tests.{lt-ltb, le-ltb, eq-eqb, ne-eqb}
+use Rattle.tables.specs.Stores.{sets-append}
 use Rattle.tables.specs.Table.{pick}
 use Rattle.tables.specs.Zip.{said, by-lt}
 use Rattle.dots.specs.declared.Dot.{Dot}
@@ -21,8 +23,9 @@ use Rattle.layout.specs.Clock.{dotIn, dotAt, dotsAt, clockEnd, clockEndIn}
 use Rattle.layout.specs.Rows.{membersAt}
 use Rattle.fields.specs.Read.{clockRead}
 use Rattle.fields.proofs.Steps.{list-step, list-end}
-use Rattle.kills.specs.Lines.{reach, along, numbers, lineOf, raiseFrom, raised, killLines, waitRead}
-use Rattle.kills.specs.Posts.{UpTo}
+use Rattle.kills.specs.Lines.{reach, along, numbers, lineOf, raiseFrom, raised, spread, killLines, waitRead}
+use Rattle.kills.specs.Posts.{UpTo, Founded}
+use Rattle.kills.specs.Laws.{length-raised, spread-front}
 
 -- ---- dots that stand in bytes one after the other
 
@@ -129,18 +132,102 @@ module _ (s places : List ℕ) (n : ℕ) where
 pub taken : (z xs : List ℕ) (n : ℕ) → length xs ≡ n → n ≤ length z → take n (sets z 0 xs) ≡ xs
 taken z xs n e h = rw (sets-eq xs z 0 (omega arith)) (take-at xs (drop (0 + length xs) z) n e)
 
+-- ---- the floor
+
+pub under-turn : (line : List Dot) (floor : List ℕ) (j : ℕ) → ((i : ℕ) → i < j → getD (numbers line) i 0 ≤ getD floor i 0) → getD line j noDot .counter ≤ getD floor j 0
+    → (i : ℕ) → i < j + 1 → getD (numbers line) i 0 ≤ getD floor i 0
+under-turn line floor j h k i l = by-lt i j (λ q. h i q) (λ q. let e : i ≡ j = omega arith in rw (e, List·getD-map (λ d. d .counter) line j noDot) k)
+
+pub lay-turn : (out floor : List ℕ) (p q j : ℕ) → j < length floor → q ≡ p + 1 → sets (set out p (getD floor j 0)) q (drop (j + 1) floor) ≡ sets out p (drop j floor)
+lay-turn out floor p q j h e = rw (rest floor j 0 h, e, add-one p)
+
+pub lay-end : (out floor : List ℕ) (p j : ℕ) → length floor ≤ j → sets out p (drop j floor) ≡ out
+lay-end out floor p j h = let e = drop-of-length-le floor {i = j} h in rw e
+
+pub spread-turn : (out out′ floor : List ℕ) (n i : ℕ) → i < n → length floor ≡ 16 → out′ ≡ sets out (16 * i) floor → sets out′ (16 * (i + 1)) (spread (n - (i + 1)) floor) ≡ sets out (16 * i) (spread (n - i) floor)
+unfolding spread
+spread-turn out out′ floor n i h l w =
+    let e : n - i ≡ suc (n - (i + 1)) = omega arith in
+    let f : 16 * (i + 1) ≡ 16 * i + length floor = omega arith in
+    rw (e, f, w) (sym (sets-append out (16 * i) floor (spread (n - (i + 1)) floor)))
+
+pub spread-end : (out floor : List ℕ) (p n i : ℕ) → n ≤ i → sets out p (spread (n - i) floor) ≡ out
+unfolding spread
+spread-end out floor p n i h = let e : n - i ≡ 0 = omega arith in rw e
+
+-- a table that is nowhere below a line is not raised by it
+
+set-same : (t : List ℕ) (p x : ℕ) → (p < length t → x ≤ getD t p 0) → set t p (max (getD t p 0) x) ≡ t
+set-same [] p x h = refl
+set-same (y ∷ t) zero x h = let k = h (omega arith) in let e : max y x ≡ y = omega arith in ap (λ (z : ℕ). z ∷ t) e
+set-same (y ∷ t) (suc p) x h = ap (λ (l : List ℕ). y ∷ l) (set-same t p x (λ l. h (omega arith)))
+
+raise-none : (t : List ℕ) (p : ℕ) (xs : List ℕ) → ((j : ℕ) → j < length xs → p + j < length t → getD xs j 0 ≤ getD t (p + j) 0) → raiseFrom t p xs ≡ t
+unfolding raiseFrom
+raise-none t p [] h = refl
+raise-none t p (x ∷ xs) h =
+    let e = set-same t p x (rw add-zero at (h 0 (omega arith))) in
+    rw e (raise-none t (suc p) xs (λ j l k. let f : suc p + j ≡ p + suc j = omega arith in rw f (h (suc j) (omega arith) (omega arith))))
+
+raised-none : (t : List ℕ) (i : ℕ) (bs : List Bool) (xs : List ℕ) → length xs ≡ 16 → ((m j : ℕ) → m < length bs → j < 16 → 16 * (i + m) + j < length t → getD xs j 0 ≤ getD t (16 * (i + m) + j) 0) → raised t i bs xs ≡ t
+unfolding raised
+raised-none t i [] xs l h = refl
+raised-none t i (b ∷ bs) xs l h =
+    rw (first b) (raised-none t (suc i) bs xs l (λ m j u v k. let f : suc i + m ≡ i + suc m = omega arith in rw f (h (suc m) j (omega arith) v (omega arith))))
+  where
+    first : (b : Bool) → pick b (raiseFrom t (16 * i) xs) t ≡ t
+    first true = raise-none t (16 * i) xs (λ j u. rw add-zero at (h 0 j (omega arith) (omega arith)))
+    first false = refl
+
+pub none-above : (t floor : List ℕ) (n : ℕ) (bs : List Bool) (xs : List ℕ) → length xs ≡ 16 → length bs ≤ n → Founded floor n t → ((j : ℕ) → j < 16 → getD xs j 0 ≤ getD floor j 0) → t ≡ raised t 0 bs xs
+none-above t floor n bs xs l k f h = sym (raised-none t 0 bs xs l (λ m j u v q. let e = zero-add m in rw e (let a = h j v in let b = f .least m j (omega arith) v (omega arith) in omega arith)))
+
+-- a table that is nowhere below the floor stays so
+
+set-grows : (t : List ℕ) (p x q : ℕ) → getD t q 0 ≤ getD (set t p (max (getD t p 0) x)) q 0
+set-grows [] p x q = omega arith
+set-grows (y ∷ t) zero x zero = omega arith
+set-grows (y ∷ t) zero x (suc q) = omega arith
+set-grows (y ∷ t) (suc p) x zero = omega arith
+set-grows (y ∷ t) (suc p) x (suc q) = set-grows t p x q
+
+raise-grows : (t : List ℕ) (p : ℕ) (xs : List ℕ) (q : ℕ) → getD t q 0 ≤ getD (raiseFrom t p xs) q 0
+unfolding raiseFrom
+raise-grows t p [] q = omega arith
+raise-grows t p (x ∷ xs) q = let a = set-grows t p x q in let b = raise-grows (set t p (max (getD t p 0) x)) (suc p) xs q in omega arith
+
+raised-grows : (t : List ℕ) (i : ℕ) (bs : List Bool) (xs : List ℕ) (q : ℕ) → getD t q 0 ≤ getD (raised t i bs xs) q 0
+unfolding raised
+raised-grows t i [] xs q = omega arith
+raised-grows t i (b ∷ bs) xs q = let a = first b in let r = raised-grows (pick b (raiseFrom t (16 * i) xs) t) (suc i) bs xs q in omega arith
+  where
+    first : (b : Bool) → getD t q 0 ≤ getD (pick b (raiseFrom t (16 * i) xs) t) q 0
+    first true = raise-grows t (16 * i) xs q
+    first false = omega arith
+
+pub founded-raised : (t t′ floor : List ℕ) (n : ℕ) (bs : List Bool) (xs : List ℕ) → length xs ≡ 16 → t′ ≡ raised t 0 bs xs → Founded floor n t → Founded floor n t′
+founded-raised t t′ floor n bs xs w e f =
+    let s : length t′ ≡ length t = ap length e ∙ length-raised xs w t 0 bs in
+    record { least = λ i j h k l. rw e (let a = raised-grows t 0 bs xs (16 * i + j) in let b = f .least i j h k (omega arith) in omega arith) }
+
+pub founded-spread : (t t′ floor : List ℕ) (n : ℕ) → length floor ≡ 16 → t′ ≡ sets t 0 (spread n floor) → Founded floor n t′
+founded-spread t t′ floor n l e =
+    let s : length t′ ≡ length t = ap length e ∙ length-sets t 0 (spread n floor) in
+    record { least = λ i j h u k. rw e (let a = spread-front t floor n i j l h u (omega arith) in omega arith) }
+
 -- ---- all waiting removes
 
-pub wait-turn : (v : Clock) (ms t waits out out′ line : List ℕ) (n i q at : ℕ) → i < n → n ≤ length waits → q ≡ getD waits i 0 → line ≡ lineOf v (clockRead t (getD waits i 0)) → at ≡ clockEnd t q
-    → out′ ≡ raised out 0 (along memberRows ms (membersAt t (at + 4) (min (u32At t at) 64))) line
+pub wait-turn : (v : Clock) (ms t waits out out′ line : List ℕ) (n i q : ℕ) → i < n → n ≤ length waits → q ≡ getD waits i 0 → line ≡ lineOf v (clockRead t q)
+    → out′ ≡ raised out 0 (along memberRows ms (waitRead t q .members)) line
     → killLines v ms (map (λ p. waitRead t p) (slice (i + 1) n waits)) out′ ≡ killLines v ms (map (λ p. waitRead t p) (slice i n waits)) out
 unfolding killLines waitRead
-wait-turn v ms t waits out out′ line n i q at h k e f g w = rw (ahead waits i n 0 h k, w, f, g, e)
+wait-turn v ms t waits out out′ line n i q h k e f w = rw (ahead waits i n 0 h k, ← e, w, f)
 
 pub wait-end : (v : Clock) (ms t waits out : List ℕ) (n i : ℕ) → n ≤ i → killLines v ms (map (λ p. waitRead t p) (slice i n waits)) out ≡ out
 unfolding killLines
 wait-end v ms t waits out n i h = rw (done waits i n h)
 
-pub end-of : (t : List ℕ) (q n : ℕ) → n ≡ u32At t q → q + 4 + 12 * n ≡ clockEnd t q
-unfolding clockEndIn
-end-of t q n e = rw e (omega arith)
+-- where the members of the waiting remove at a place stand
+pub members-are : (t : List ℕ) (at q n : ℕ) → q ≡ at → n ≡ u32At t q → membersAt t (q + 4 + 12 * n + 4) (min (u32At t (q + 4 + 12 * n)) 64) ≡ waitRead t at .members
+unfolding waitRead clockEndIn
+members-are t at q n e f = let g : q + 4 + 12 * n ≡ clockEnd t at = rw (f, e) (omega arith) in rw g

@@ -6,8 +6,8 @@ use mathlib.Core.List.{List, [], _∷_, map}
 use native.Mathlib.Omega.{arith}
 use native.Mathlib.Nat.{zero-add, add-zero}
 use lib.Dec.{ltb}
-use lib.ListN.{length, drop, set, getD, replicate, length-set, length-map, getD-replicate, length-replicate, List·getD-append}
-use lib.Seq.{sets, sets-eq, getD-set-same, getD-set-other, length-sets}
+use lib.ListN.{length, set, getD, replicate, length-set, length-map, length-append, List·getD-append}
+use lib.Seq.{sets, getD-set-same, getD-set-other, getD-append-add, length-sets}
 use borrow.Author.Tests.{ltb-true, ltb-false}
 use Rattle.tables.specs.Order.{nat-lt, lt-nat}
 use Rattle.tables.specs.Table.{pick, get, Asc, Below, All}
@@ -17,7 +17,7 @@ use Rattle.dots.specs.Dot.{dots, actorOf, noDot}
 use Rattle.dots.specs.Clock.{Clock, count}
 use Rattle.replica.specs.Replica.{Wait, memberRows, memberSets}
 use Rattle.replica.specs.Kills.{killsOf}
-use Rattle.kills.specs.Lines.{reach, along, lineOf, raiseFrom, raised, killLines}
+use Rattle.kills.specs.Lines.{reach, along, lineOf, raiseFrom, raised, spread, killLines, killTable}
 
 -- ---- one walk along a table
 
@@ -135,8 +135,19 @@ pub record Ordered (w : Wait) : Type 0 where
   pub clock-asc : Rise dots (w .clock)
   pub members-asc : Rise memberRows (w .members)
 
-sets-front : (t xs : List ℕ) (j : ℕ) → j < length xs → length xs ≤ length t → getD (sets t 0 xs) j 0 ≡ getD xs j 0
-sets-front t xs j h l = rw (sets-eq xs t 0 (omega arith)) (List·getD-append xs (drop (0 + length xs) t) 0 j h)
+sets-cons : (x : ℕ) (t : List ℕ) (i : ℕ) (xs : List ℕ) → sets (x ∷ t) (suc i) xs ≡ x ∷ sets t i xs
+sets-cons x t i [] = refl
+sets-cons x t i (y ∷ xs) = sets-cons x (set t i y) (suc i) xs
+
+sets-front : (t xs : List ℕ) (j : ℕ) → j < length xs → j < length t → getD (sets t 0 xs) j 0 ≡ getD xs j 0
+sets-front [] xs j h l = absurd (omega arith)
+sets-front (y ∷ t) [] j h l = absurd (omega arith)
+sets-front (y ∷ t) (x ∷ xs) zero h l = ap (λ (r : List ℕ). getD r 0 0) (sets-cons x t 0 xs)
+sets-front (y ∷ t) (x ∷ xs) (suc j) h l = ap (λ (r : List ℕ). getD r (suc j) 0) (sets-cons x t 0 xs) ∙ sets-front t xs j (omega arith) (omega arith)
+
+pub length-marks : (rs : List ℕ) (ks : List ℕ) → length (along memberRows ks rs) ≡ length ks
+length-marks rs [] = refl
+length-marks rs (k ∷ ks) = ap suc (length-marks (reach memberRows k rs) ks)
 
 module _ (v : Clock) (ms : List ℕ) (va : Rise dots v) (ma : Asc compare ms) (few : length v ≤ 16) where
   actors : List ℕ
@@ -167,10 +178,6 @@ module _ (v : Clock) (ms : List ℕ) (va : Rise dots v) (ma : Asc compare ms) (f
       pointwise (k ∷ ks) zero h = refl
       pointwise (k ∷ ks) (suc m) h = pointwise ks m (omega arith)
 
-  length-marks : (rs : List ℕ) (ks : List ℕ) → length (along memberRows ks rs) ≡ length ks
-  length-marks rs [] = refl
-  length-marks rs (k ∷ ks) = ap suc (length-marks (reach memberRows k rs) ks)
-
   pub kill-at : (ws : List Wait) (t : List ℕ) (m j : ℕ) → All Ordered ws → m < length ms → j < length v → 16 * m + j < length t
       → getD (killLines v ms ws t) (16 * m + j) 0 ≡ max (getD t (16 * m + j) 0) (killsOf ws (getD ms m 0) (actorOf (getD v j noDot)))
   unfolding killLines killsOf
@@ -189,11 +196,30 @@ module _ (v : Clock) (ms : List ℕ) (va : Rise dots v) (ma : Asc compare ms) (f
       let r = kill-at ws (raised t 0 bs L) m j (o .1) h g l′ in
       omega arith
 
--- from a table of zeros: the kill numbers
-pub kill-numbers : (v : Clock) (ms : List ℕ) → Rise dots v → Asc compare ms → length v ≤ 16 → length ms ≤ 64 → (ws : List Wait) → All Ordered ws → (m j : ℕ) → m < length ms → j < length v
-    → getD (killLines v ms ws (replicate 1024 0)) (16 * m + j) 0 ≡ killsOf ws (getD ms m 0) (actorOf (getD v j noDot))
-kill-numbers v ms va ma few many ws o m j h g =
-    let n : length {A = ℕ} (replicate 1024 0) ≡ 1024 = length-replicate {A = ℕ} 1024 0 in
-    let z : getD {A = ℕ} (replicate 1024 0) (16 * m + j) 0 ≡ 0 = getD-replicate {A = ℕ} 1024 (16 * m + j) 0 0 (omega arith) in
-    let r = kill-at v ms va ma few ws (replicate 1024 0) m j o h g (omega arith) in
+-- ---- the floor
+
+length-spread : (n : ℕ) (floor : List ℕ) → length floor ≡ 16 → length (spread n floor) ≡ 16 * n
+unfolding spread
+length-spread zero floor l = refl
+length-spread (suc n) floor l = rw length-append (let r = length-spread n floor l in omega arith)
+
+spread-at : (n : ℕ) (floor : List ℕ) (i j : ℕ) → length floor ≡ 16 → i < n → j < 16 → getD (spread n floor) (16 * i + j) 0 ≡ getD floor j 0
+unfolding spread
+spread-at zero floor i j l h k = absurd (omega arith)
+spread-at (suc n) floor zero j l h k = rw zero-add (List·getD-append floor (spread n floor) 0 j (omega arith))
+spread-at (suc n) floor (suc i) j l h k =
+    let e : 16 * suc i + j ≡ length floor + (16 * i + j) = omega arith in
+    rw e (getD-append-add floor (spread n floor) (16 * i + j) 0 ∙ spread-at n floor i j l (omega arith) k)
+
+pub spread-front : (t floor : List ℕ) (n i j : ℕ) → length floor ≡ 16 → i < n → j < 16 → 16 * i + j < length t → getD (sets t 0 (spread n floor)) (16 * i + j) 0 ≡ getD floor j 0
+spread-front t floor n i j l h u k = let e = length-spread n floor l in sets-front t (spread n floor) (16 * i + j) (omega arith) (omega arith) ∙ spread-at n floor i j l h u
+
+-- the numbers of the table: the floor's, raised to the kill numbers
+pub kill-numbers : (v : Clock) (ms : List ℕ) → Rise dots v → Asc compare ms → length v ≤ 16 → (floor t : List ℕ) → length floor ≡ 16 → 16 * length ms ≤ length t → (ws : List Wait) → All Ordered ws
+    → (m j : ℕ) → m < length ms → j < length v → getD (killTable v ms ws floor t) (16 * m + j) 0 ≡ max (getD floor j 0) (killsOf ws (getD ms m 0) (actorOf (getD v j noDot)))
+unfolding killTable
+kill-numbers v ms va ma few floor t l n ws o m j h g =
+    let k : length (sets t 0 (spread (length ms) floor)) ≡ length t = length-sets t 0 (spread (length ms) floor) in
+    let z = spread-front t floor (length ms) m j l h (omega arith) (omega arith) in
+    let r = kill-at v ms va ma few ws (sets t 0 (spread (length ms) floor)) m j o h g (omega arith) in
     omega arith

@@ -1,9 +1,9 @@
 -- The table of kill lines: line i has 16 numbers from place 16 i on, one for each actor of a clock v.
-use Prim.Native.Nat.{ℕ, suc, _+_, _*_, max, min}
+use Prim.Native.Nat.{ℕ, zero, suc, _+_, _*_, max, min}
 use mathlib.Core.Bool.{Bool}
-use mathlib.Core.List.{List, [], _∷_, map}
+use mathlib.Core.List.{List, [], _∷_, _++_, map}
 use lib.Dec.{ltb}
-use lib.ListN.{take, set, getD, replicate}
+use lib.ListN.{length, take, set, getD, replicate}
 use lib.Seq.{sets}
 use Rattle.tables.specs.Table.{pick}
 use Rattle.tables.specs.Zip.{Rows, said}
@@ -49,6 +49,15 @@ raised t i (b ∷ bs) xs = raised (pick b (raiseFrom t (16 * i) xs) t) (suc i) b
 unfoldable pub killLines : Clock → List ℕ → List Wait → List ℕ → List ℕ
 killLines v ms [] t = t
 killLines v ms (w ∷ ws) t = killLines v ms ws (raised t 0 (along memberRows ms (w .members)) (lineOf v (w .clock)))
+
+-- n lines, each the floor
+unfoldable pub spread : ℕ → List ℕ → List ℕ
+spread zero floor = []
+spread (suc n) floor = floor ++ spread n floor
+
+-- the table of some members: their lines are the floor, raised by waiting removes; what stands after them in the table stays
+unfoldable pub killTable : Clock → List ℕ → List Wait → List ℕ → List ℕ → List ℕ
+killTable v ms ws floor t = killLines v ms ws (sets t 0 (spread (length ms) floor))
 
 -- ---- read from bytes at given places: at most 16 dots and 64 members of a waiting remove (an argument list is handed over as one)
 

@@ -2,6 +2,7 @@
 ghost use mathlib.Core.Path.{_≡_};
 ghost use Prim.Native.Nat.{_+_, _-_, _*_, _<_, _≤_, max, min};
 ghost use lib.ListN.{length, take};
+ghost use lib.Seq.{sets};
 ghost use Rattle.tables.specs.Table.{pick};
 ghost use Rattle.tables.specs.Zip.{said};
 ghost use Rattle.dots.specs.Dot.{dots};
@@ -11,8 +12,8 @@ ghost use Rattle.layout.specs.Fields.{u32At};
 ghost use Rattle.layout.specs.Clock.{dotsAt};
 ghost use Rattle.layout.specs.Rows.{membersAt};
 ghost use Rattle.fields.specs.Read.{clockRead};
-ghost use Rattle.kills.specs.Lines.{along, numbers, lineOf, raiseFrom, raised, killLines, membersOf, waitsOf};
-ghost use Rattle.kills.specs.Posts.{Skipped, UpTo};
+ghost use Rattle.kills.specs.Lines.{along, numbers, lineOf, raiseFrom, raised, spread, killTable, membersOf, waitRead, waitsOf};
+ghost use Rattle.kills.specs.Posts.{Skipped, UpTo, Compared, Founded};
 use clocks::VClock;
 use dots::Actor;
 use dots::Dot;
@@ -96,6 +97,20 @@ fn larger(x: u64, y: u64) -> u64
     if x < y { y } else { x }
 }
 
+// Whether a line is somewhere above the floor.
+fn above(line: [Dot; 16], floor: &[u64; 16]) -> bool
+    ensures { λ r. ⌜ Compared (numbers line) (now (floor .entry)) r ⌝ }
+{
+    let mut j: usize = 0;
+    while j < 16 {
+        if floor[j] < line[j].counter {
+            return true;
+        }
+        j += 1;
+    }
+    false
+}
+
 // Raises line i of the table to a line. It takes dots, since bare numbers would be compared two at a time, which is slower.
 fn raise_line(out: &mut [u64; 1024], i: usize, line: [Dot; 16])
     requires { ⌜ i < 64 ⌝ }
@@ -163,6 +178,50 @@ fn raise_named(
     }
 }
 
+// Raises the lines of those of the n members that the waiting remove at a place names, where its line is above the floor: where it is nowhere, they stand as high.
+fn raise_by(
+    ms: &[u32; 64],
+    n: usize,
+    t: &[u8],
+    at: u32,
+    line: [Dot; 16],
+    floor: &[u64; 16],
+    out: &mut [u64; 1024],
+)
+    requires { ⌜ (n ≤ 64) × (length (now ms) ≡ 64) × Founded (now floor) n (now out) ⌝ }
+    ensures { λ _. ⌜ now (out .exit) ≡ raised (now (out .entry)) 0 (along memberRows (take n (now (ms .entry))) (waitRead (now (t .entry)) at .members)) (numbers line) ⌝ }
+{
+    if above(line, floor) {
+        let q = wide(at);
+        let members = q + 4 + 12 * wide(u32_at(t, q));
+        raise_named(ms, n, t, members, line, out);
+    }
+}
+
+// Line i of the table is the floor.
+fn lay_line(floor: &[u64; 16], i: usize, out: &mut [u64; 1024])
+    requires { ⌜ (i < 64) × (length (now floor) ≡ 16) ⌝ }
+    ensures { λ _. ⌜ now (out .exit) ≡ sets (now (out .entry)) (16 * i) (now (floor .entry)) ⌝ }
+{
+    let mut j: usize = 0;
+    while j < 16 {
+        out[16 * i + j] = floor[j];
+        j += 1;
+    }
+}
+
+// The first n lines of the table are the floor.
+fn lay(floor: &[u64; 16], n: usize, out: &mut [u64; 1024])
+    requires { ⌜ (n ≤ 64) × (length (now floor) ≡ 16) ⌝ }
+    ensures { λ _. ⌜ now (out .exit) ≡ sets (now (out .entry)) 0 (spread n (now (floor .entry))) ⌝ }
+{
+    let mut i: usize = 0;
+    while i < n {
+        lay_line(floor, i, out);
+        i += 1;
+    }
+}
+
 // The members of the n entries at places.
 fn members_at(s: &[u8], places: [u32; 64], n: usize) -> [u32; 64]
     requires { ⌜ n ≤ 64 ⌝ }
@@ -177,8 +236,8 @@ fn members_at(s: &[u8], places: [u32; 64], n: usize) -> [u32; 64]
     ms
 }
 
-// Raises line i, 16 numbers from 16 i on, of the i-th of the n entries at places of s, by each of the k waiting removes at places of t
-// that names its member: number j is at least the counter that the waiting remove has for actor j of v.
+// Makes line i of the table, 16 numbers from 16 i on, of the i-th of the n entries at places of s: the floor, raised by each of the k waiting
+// removes at places of t that names the entry's member. Number j is the counter that the waiting remove has for actor j of v.
 pub fn kill_lines(
     s: &[u8],
     places: [u32; 64],
@@ -187,20 +246,20 @@ pub fn kill_lines(
     waits: [u32; 16],
     k: usize,
     v: VClock,
+    floor: [u64; 16],
     out: &mut [u64; 1024],
 )
-    ensures { λ _. ⌜ now (out .exit) ≡ killLines (dotsOf v) (membersOf (now (s .entry)) places n) (waitsOf (now (t .entry)) waits k) (now (out .entry)) ⌝ }
+    ensures { λ _. ⌜ now (out .exit) ≡ killTable (dotsOf v) (membersOf (now (s .entry)) places n) (waitsOf (now (t .entry)) waits k) floor (now (out .entry)) ⌝ }
 {
     let entries = at_most(n, 64);
     let number = at_most(k, 16);
     let ms = members_at(s, places, entries);
+    lay(&floor, entries, out);
     let mut i: usize = 0;
     while i < number {
         let at = waits[i];
         let line = line_at(t, at, v);
-        let q = wide(at);
-        let members = q + 4 + 12 * wide(u32_at(t, q));
-        raise_named(&ms, entries, t, members, line, out);
+        raise_by(&ms, entries, t, at, line, &floor, out);
         i += 1;
     }
 }

@@ -3,7 +3,7 @@ use Prim.Native.Nat.{ℕ, zero, suc, _+_, _*_, _≤_, _<_}
 use mathlib.Core.Path.{_≡_, refl, sym, ap, ap₂, _∙_}
 use mathlib.Core.List.{List, [], _∷_, map}
 use native.Mathlib.Omega.{arith}
-use lib.ListN.{length, take, drop, getD, replicate, length-map}
+use lib.ListN.{length, take, drop, getD, replicate, length-map, length-replicate, getD-replicate}
 use Rattle.tables.specs.Zip.{Rise}
 use Rattle.dots.specs.Dot.{dots, actorOf}
 use Rattle.clocks.specs.declared.VClock.{VClock}
@@ -15,7 +15,7 @@ use Rattle.layout.specs.Clock.{dotsAt, clockIn}
 use Rattle.layout.specs.Rows.{rowAt, rowEnd}
 use Rattle.layout.specs.Image.{imageIn, imageOf, entriesStart, entriesCount}
 use Rattle.layout.specs.Form.{length-listAt}
-use Rattle.kills.specs.Lines.{killLines, membersOf, waitsOf}
+use Rattle.kills.specs.Lines.{killTable, membersOf, waitsOf}
 use Rattle.kills.specs.Laws.{kill-numbers}
 use Rattle.image.specs.declared.Image.{Image}
 use Rattle.merging.specs.Rowing.{Side, Ready}
@@ -34,7 +34,7 @@ held-few s x H = let l = length-listAt rowAt rowEnd s (entriesStart s) (entriesC
 -- the lines of one side: actors vs, clock counters va, and k, the kill lines that its waiting removes have for the entries of the other
 module _ (v : VClock) (vs : List ℕ) (few : v .len ≤ 16) (rise : Rise dots (dotsOf v)) (long : length vs ≡ 16) (actors : take (v .len) vs ≡ map (λ d. actorOf d) (dotsOf v)) where
   abbrev Killed : List ℕ → Image → List ℕ → Image → List ℕ → Type 0
-  Killed s x t y k = k ≡ killLines (dotsOf v) (membersOf t (y .places) (y .entries)) (waitsOf s (x .starts) (x .waits)) (replicate 1024 0)
+  Killed s x t y k = k ≡ killTable (dotsOf v) (membersOf t (y .places) (y .entries)) (waitsOf s (x .starts) (x .waits)) (replicate 16 0) (replicate 1024 0)
 
   lines-of : (s : List ℕ) (x : Image) (t : List ℕ) (y : Image) (k : List ℕ) → Held s x → Held t y → Killed s x t y k
       → (j i : ℕ) (e : Entry) (rest : List Entry) → drop j (imageOf t .entries) ≡ e ∷ rest → i < v .len → getD k (16 * j + i) 0 ≡ killsOf (imageOf s .waiting) (e .member) (getD vs i 0)
@@ -45,8 +45,10 @@ module _ (v : VClock) (vs : List ℕ) (few : v .len ≤ 16) (rise : Rise dots (d
       let n = clock-long v vs long few actors in
       let m = held-few t y G in
       let l = r .0 in
-      ap (λ (l : List ℕ). getD l (16 * j + i) 0) (z ∙ ap₂ (λ (a : List ℕ) (b : List Wait). killLines (dotsOf v) a b (replicate 1024 0)) (G .members) (H .waiting))
-      ∙ kill-numbers (dotsOf v) ms rise (G .rise) (omega arith) (omega arith) (imageOf s .waiting) (H .ordered) j i (omega arith) (omega arith)
+      let w = kill-numbers (dotsOf v) ms rise (G .rise) (omega arith) (replicate 16 0) (replicate 1024 0) refl (rw (length-replicate {A = ℕ} 1024 0) (omega arith)) (imageOf s .waiting) (H .ordered) j i (omega arith) (omega arith) in
+      let zero = getD-replicate {A = ℕ} 16 i 0 0 (omega arith) in
+      ap (λ (l : List ℕ). getD l (16 * j + i) 0) (z ∙ ap₂ (λ (a : List ℕ) (b : List Wait). killTable (dotsOf v) a b (replicate 16 0) (replicate 1024 0)) (G .members) (H .waiting))
+      ∙ omega arith
       ∙ ap₂ (killsOf (imageOf s .waiting)) (r .1) (sym (taken-at (λ d. actorOf d) refl (dotsOf v) vs (v .len) actors i h))
 
   side-of : (s : List ℕ) (x : Image) (p m : ℕ) (va k : List ℕ) (es : List Entry) → Held s x → p ≡ u32At s 8 → m ≡ u32At s 24 → Counts (dotsAt s 28 m) vs (v .len) va

@@ -116,9 +116,9 @@ pub(crate) fn keep_entries(
     let xw = x.starts;
     let yw = y.starts;
     let mut ka = [0u64; 1024];
-    kills::kill_lines(b, ys, y.entries, a, xw, x.waits, v, &mut ka);
+    kills::kill_lines(b, ys, y.entries, a, xw, x.waits, v, [0u64; 16], &mut ka);
     let mut kb = [0u64; 1024];
-    kills::kill_lines(a, xs, x.entries, b, yw, y.waits, v, &mut kb);
+    kills::kill_lines(a, xs, x.entries, b, yw, y.waits, v, [0u64; 16], &mut kb);
     merge_entries(
         a,
         index(fields::u32_at(a, 8)),
