@@ -55,10 +55,19 @@ unfolding bothSets zip
 sets-left x h = ext memberSets (bothSets x []) x (normal-join memberSets (λ m. get memberSets x m || false) x [] no-members) h
     (λ m. get-join memberSets (λ m. get memberSets x m || false) x [] (λ m e f. rw e) m ∙ or-false (get memberSets x m))
 
-sets-right : (y : List ℕ) → Normal memberSets y → bothSets [] y ≡ y
+pub sets-right : (y : List ℕ) → Normal memberSets y → bothSets [] y ≡ y
 unfolding bothSets zip
 sets-right y h = ext memberSets (bothSets [] y) y (normal-join memberSets (λ m. get memberSets y m) [] y h) h
     (λ m. get-join memberSets (λ m. get memberSets y m) [] y (λ m e f. f) m)
+
+pub sets-same : (x : List ℕ) → Normal memberSets x → bothSets x x ≡ x
+unfolding bothSets zip
+sets-same x h = ext memberSets (bothSets x x) x (normal-join memberSets (λ m. get memberSets x m || get memberSets x m) x x h) h
+    (λ m. get-join memberSets (λ m. get memberSets x m || get memberSets x m) x x (λ m e f. rw e) m ∙ or-self (get memberSets x m))
+  where
+    or-self : (b : Bool) → (b || b) ≡ b
+    or-self true = refl
+    or-self false = refl
 
 wait-pick : (b : Bool) (c : Clock) (o : Option (List ℕ)) (ms : List ℕ) → o ≡ some ms → wait? c (pick b none o) ≡ pick b none (some (record { clock = c; members = ms }))
 wait-pick true c o ms e = refl

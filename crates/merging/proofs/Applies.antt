@@ -202,8 +202,10 @@ module _ (s : List ℕ) (x : Image) (cx : x ≡ checkImage s) (g : x .good ≡ t
       side-waits : WaitsHeld (encode B) (waitsStart (encode B)) l
       side-waits = by-lt 0 l
           (λ h. let e : l ≡ waitsCount (encode B) = let k = one-there in omega arith in
-          rw e (record { few = let k = one-there in omega arith; rise = rw one-waits (tt, tt); all-sound = rw one-waits (side-sound, tt); edge = Y .edge }))
-          (λ h. let e : l ≡ 0 = omega arith in rw e (none-waiting (encode B) (waitsStart (encode B)) (let k = end-ge (encode B) (waitsStart (encode B)) (waitsCount (encode B)) in let f = Y .edge in omega arith)))
+          rw e (record { few = let k = one-there in omega arith; rise = rw one-waits (tt, tt); all-sound = rw one-waits (side-sound, tt); edge = Y .edge; inside = Y .inside }))
+          (λ h. let e : l ≡ 0 = omega arith in
+          let k = end-ge (encode B) (waitsStart (encode B)) (waitsCount (encode B)) in let f = Y .edge in let g = Y .inside in
+          rw e (none-waiting (encode B) (waitsStart (encode B)) (omega arith) (omega arith)))
 
       waits-taken : waitsAt (encode B) (waitsStart (encode B)) l ≡ take l (B .waiting)
       unfolding listAt

@@ -7,6 +7,7 @@ pub mod SideHeld
 pub mod RowLoop
 pub mod OrderSteps
 pub mod NameSteps
+pub mod CopySteps
 pub mod WaitSteps
 pub mod WaitLoop
 pub mod DraftSteps

@@ -70,6 +70,7 @@ pub record WaitsHeld (s : List ℕ) (p m : ℕ) : Type 0 where
   pub rise : Ascend waits (waitsAt s p m)
   pub all-sound : All Sound (waitsAt s p m)
   pub edge : waitsEnd s p m < 65536
+  pub inside : waitsEnd s p m ≤ length s
 
 pub waits-ready : (v : Clock) (s : List ℕ) (p m : ℕ) (t : List ℕ) (q k : ℕ) → WaitsHeld s p m → WaitsHeld t q k → Normal clocks v → WaitsReady v s p m t q k
 waits-ready v s p m t q k a b n = record {
@@ -81,12 +82,14 @@ waits-ready v s p m t q k a b n = record {
   right-sound = b .all-sound;
   left-edge = a .edge;
   right-edge = b .edge;
+  left-inside = a .inside;
+  right-inside = b .inside;
   clock-ok = n;
 }
 
-pub none-waiting : (s : List ℕ) (p : ℕ) → p < 65536 → WaitsHeld s p 0
+pub none-waiting : (s : List ℕ) (p : ℕ) → p < 65536 → p ≤ length s → WaitsHeld s p 0
 unfolding listAt endAfter
-none-waiting s p h = record { few = omega arith; rise = tt; all-sound = tt; edge = h }
+none-waiting s p h k = record { few = omega arith; rise = tt; all-sound = tt; edge = h; inside = k }
 
 pub wait-sound : (w : Wait) → WaitFine full w → Sound w
 wait-sound w f = record {
@@ -117,4 +120,5 @@ held-waits s x g e =
       rise = waits-rise s (waitsStart s) [] (waitsCount s) (P .waits-good) .1;
       all-sound = all-map (WaitFine full) Sound (imageOf s .waiting) wait-sound (P .formed .waits-ok);
       edge = omega arith;
+      inside = let e = r .end-ok in omega arith;
     })

@@ -99,6 +99,7 @@ module _ (B : Replica) (fits : Fits B) (short : lengthOf narrow B < 65536) where
   brings few many rise ordered y en members waiting = record {
     image = back;
     edge = waits-edge;
+    inside = let r = readable .end-ok in omega arith;
     held = record {
       clock-few = let d = dots-count in omega arith;
       number = en ∙ sym rows-count;

@@ -100,7 +100,8 @@ module _ (v : Clock) (s : List ℕ) (p m : ℕ) (t : List ℕ) (q k : ℕ) (R : 
     pub waits-ahead : 0 < w .m + w .k → WaitsAhead s t w
     waits-ahead h =
         let la = R .left-edge in let lb = R .right-edge in let ea = z .left-edge in let eb = z .right-edge in
-        record { more = h; left-rise = z .left-rise; right-rise = z .right-rise; left-sound = z .left-sound; right-sound = z .right-sound; left-edge = omega arith; right-edge = omega arith }
+        let ia = R .left-inside in let ib = R .right-inside in
+        record { more = h; left-rise = z .left-rise; right-rise = z .right-rise; left-sound = z .left-sound; right-sound = z .right-sound; left-edge = omega arith; right-edge = omega arith; left-inside = omega arith; right-inside = omega arith }
 
     pub waits-again : 0 < w .m + w .k → (out′ : List ℕ) (w′ : Waits) → MergedWait v s t out w out′ w′ → Waiting v s t p m q k at out₀ whole out′ w′
     unfolding nextWait

@@ -1,5 +1,5 @@
 -- One turn of the loop over the waiting removes of two images.
-use Prim.Native.Nat.{ℕ, zero, suc, _+_, _*_, _-_, _≤_, _<_, max, min, Ordering, Ordering·lt, Ordering·eq, Ordering·gt}
+use Prim.Native.Nat.{ℕ, zero, suc, _+_, _*_, _-_, _≤_, _<_, max, Ordering, Ordering·lt, Ordering·eq, Ordering·gt}
 use mathlib.Core.Path.{_≡_, refl, sym, ap, ap₂, _∙_}
 use mathlib.Core.Bool.{Bool, true, false, false≢true}
 use mathlib.Core.List.{List, [], _∷_, _++_}
@@ -7,34 +7,32 @@ use native.Mathlib.Omega.{arith}
 use native.Mathlib.Nat.{add-zero}
 use lib.Dec.{eqb}
 use lib.ListN.{length, length-append}
-use lib.Seq.{sets, length-sets}
+use lib.Seq.{sets, slice, length-sets}
 use borrow.Author.Tests.{ne-eqb}
 use Rattle.tables.specs.Stores.{sets-append}
-use Rattle.tables.specs.Table.{All, pick, cons?}
+use Rattle.tables.specs.Table.{Normal, All, pick, cons?}
 use Rattle.tables.specs.Zip.{tail, Rise, turnOf, left-after, right-after}
 use Rattle.dots.specs.Clock.{Clock}
 use Rattle.dots.specs.Covering.{coverOf}
-use Rattle.clocks.specs.declared.VClock.{VClock}
-use Rattle.clocks.specs.VClock.{dotsOf, vclock, dots-vclock}
-use Rattle.replica.specs.Replica.{Wait, waits, memberRows}
-use Rattle.layout.specs.Fields.{u32At, le32, length-le32}
+use Rattle.replica.specs.Replica.{Wait, waits, memberRows, memberSets}
+use Rattle.layout.specs.Fields.{Bytes, u32At, le32, length-le32}
 use Rattle.layout.specs.Lists.{listAt, endAfter, bytesOf}
 use Rattle.layout.specs.Form.{length-listAt}
 use Rattle.layout.specs.Clock.{dotAt, dotsAt, clockIn, clockEndIn, clockAt, clockEnd, encodeClock, encodeClockIn}
-use Rattle.layout.specs.Rows.{membersAt, encodeMembers, waitIn, waitEndIn, waitsAt, waitsEnd, waitEnd, waitAtPlace, encodeWaits, encodeWaitIn}
-use Rattle.fields.specs.Read.{clockRead, Put}
+use Rattle.layout.specs.Rows.{memberEnd, membersAt, encodeMembers, waitIn, waitEndIn, waitsAt, waitsEnd, waitEnd, waitAtPlace, encodeWaits, encodeWaitIn}
 use Rattle.merging.specs.declared.waits.Part.{Part}
 use Rattle.merging.specs.declared.waits.Put as putting
 use Rattle.merging.specs.declared.waits.Waits.{Waits}
-use Rattle.changing.specs.KeptWaits.{bothSets, nextClock, nextLeft, nextRight}
+use Rattle.changing.specs.KeptWaits.{bothSets, sets-left, sets-right, sets-same, nextClock, nextLeft, nextRight}
 use Rattle.merging.specs.Waiting as waiting
+use Rattle.merging.proofs.CopySteps.{wait-copied, clock-copied}
 use Rattle.merging.proofs.KeepSteps.{length-dots}
 use Rattle.merging.proofs.RowSteps.{sets-before}
 
 abbrev Putting : Type 0
 Putting = putting.Put
 
-append-nil : (l : List ℕ) → l ++ [] ≡ l
+pub append-nil : (l : List ℕ) → l ++ [] ≡ l
 append-nil [] = refl
 append-nil (x ∷ l) = ap (λ (r : List ℕ). x ∷ r) (append-nil l)
 
@@ -47,14 +45,7 @@ pub length-clock : (c : Clock) → length (encodeClock c) ≡ 4 + 12 * length c
 unfolding encodeClockIn
 length-clock c = simp (length-append, length-le32, length-dots)
 
--- ---- the clock that is read and written
-
-pub read-clock : (s : List ℕ) (p : ℕ) (c : VClock) → u32At s p ≤ 16 → c ≡ vclock (clockRead s p) → dotsOf c ≡ clockAt s p
-unfolding clockRead clockIn
-read-clock s p c h e =
-    let m : min (u32At s p) 16 ≡ u32At s p = omega arith in
-    let l = length-listAt dotAt (λ s p. p + 12) s (p + 4) (u32At s p) in
-    ap dotsOf e ∙ rw m (dots-vclock (dotsAt s (p + 4) (u32At s p)) (rw l h))
+-- ---- a clock in bytes
 
 pub length-clockAt : (s : List ℕ) (p : ℕ) → length (clockAt s p) ≡ u32At s p
 unfolding clockIn
@@ -64,51 +55,92 @@ pub cover-clock : (v : Clock) (s : List ℕ) (p n : ℕ) (r : Bool) → n ≡ u3
 unfolding clockIn
 cover-clock v s p n r e h = rw e at h
 
-pub put-short : (s : List ℕ) (p : ℕ) (c : VClock) (r : ℕ) → u32At s p ≤ 16 → c ≡ vclock (clockRead s p) → r ≡ length (encodeClock (dotsOf c)) → r ≤ 196
-put-short s p c r h e l =
-    let q = length-clock (clockAt s p) in let k = length-clockAt s p in
-    let f : r ≡ length (encodeClock (clockAt s p)) = rw (read-clock s p c h e) at l in
-    omega arith
-
 -- ---- what is written
 
-module _ (c : Clock) (xs ys : List ℕ) (most : ℕ) (out : List ℕ) (at : ℕ) where
-  pub put-none : (b : Bool) → b ≡ true → waiting.PutWait b c xs ys most out at out (record { long = 0; count = 0; names = 0 })
+wait-end : (s : List ℕ) (p : ℕ) → waitEnd s p ≡ p + (8 + 12 * u32At s p + 4 * u32At s (clockEnd s p))
+unfolding waitEndIn clockEndIn
+wait-end s p = omega arith
+
+module _ (c : Clock) (ms : List ℕ) (most : ℕ) (out : List ℕ) (at : ℕ) where
+  pub put-none : (b : Bool) → b ≡ true → waiting.PutWait b c ms most out at out (record { long = 0; count = 0; names = 0 })
   unfolding waiting.mostNamed bytesOf
   put-none b e = rw e (record { count = refl; long = refl; names = refl; short = omega arith; bytes = refl })
 
-  pub put-some : (b : Bool) (r1 n : ℕ) (out1 out2 out3 : List ℕ) → b ≡ false → Put out at (encodeClock c) out1 r1
-      → waiting.WroteMembers out1 (at + r1 + 4) (bothSets xs ys) out2 most n → out3 ≡ sets out2 (at + r1) (le32 n)
-      → waiting.PutWait b c xs ys most out at out3 (record { long = at + r1 - at + 4 + 4 * n; count = 1; names = n })
+  -- by its bytes
+  pub put-some : (b : Bool) (long n : ℕ) (out′ : List ℕ) → b ≡ false → n ≡ length ms → n ≤ most → long ≡ 8 + 12 * length c + 4 * n
+      → out′ ≡ sets out at (encodeClock c ++ (le32 (length ms) ++ encodeMembers ms)) → waiting.PutWait b c ms most out at out′ (record { long = long; count = 1; names = n })
   unfolding waiting.mostNamed bytesOf encodeWaitIn
-  put-some b r1 n out1 out2 out3 e k w f =
-      let ms = bothSets xs ys in
-      let cn = w .count in
-      let fw = w .few in
-      let lr = k .long in
+  put-some b long n out′ e en few el eo =
+      let all = encodeClock c ++ (le32 (length ms) ++ encodeMembers ms) in
       let lc = length-clock c in
       let lm = length-members ms in
-      let all = encodeClock c ++ (le32 (length ms) ++ encodeMembers ms) in
       let la : length all ≡ length (encodeClock c) + (4 + length (encodeMembers ms)) = simp (length-append, length-le32) in
-      let body : out3 ≡ sets out at all =
-      f ∙ ap (λ (l : List ℕ). sets l (at + r1) (le32 n)) (w .bytes ∙ ap (λ (j : ℕ). sets out1 j (encodeMembers ms)) (ap (λ (j : ℕ). at + r1 + j) (sym (length-le32 n))))
-      ∙ sets-before out1 (at + r1) (le32 n) (encodeMembers ms)
-      ∙ rw (k .is, lr, cn) (sym (sets-append out at (encodeClock c) (le32 (length ms) ++ encodeMembers ms))) in
       rw e (record {
         count = refl;
         long = rw (append-nil all, la) (omega arith);
         names = omega arith;
         short = omega arith;
-        bytes = rw (append-nil all) body;
+        bytes = rw (append-nil all) eo;
       })
 
-pub put-size : {b : Bool} {c : Clock} {xs ys : List ℕ} {most : ℕ} {out : List ℕ} {at : ℕ} {out′ : List ℕ} {r : Putting} → waiting.PutWait b c xs ys most out at out′ r → length out′ ≡ length out
-put-size {b} {c} {xs} {ys} {most} {out} {at} k = ap length (k .bytes) ∙ length-sets out at (encodeWaits (cons? (waiting.waitOf b c xs ys) []))
+-- one that is copied whole
+pub put-whole : (s : List ℕ) (p : ℕ) (x : Part) (out : List ℕ) (at : ℕ) (b : Bool) (out′ : List ℕ) → Bytes s → waiting.Whole s p x → b ≡ false → out′ ≡ sets out at (slice p (x .end) s)
+    → waiting.PutWait b (clockAt s p) (membersAt s (x .names) (x .count)) (x .count) out at out′ (record { long = x .end - p; count = 1; names = x .count })
+unfolding waitIn encodeWaitIn
+put-whole s p x out at b out′ bs h e f =
+    let lc = length-clockAt s p in let we = wait-end s p in let en = h .end in let ec = h .count in
+    let ms : membersAt s (x .names) (x .count) ≡ waitAtPlace s p .members = ap₂ (membersAt s) (h .names) (h .count) in
+    put-some (clockAt s p) (membersAt s (x .names) (x .count)) (x .count) out at b (x .end - p) (x .count) out′ e (sym (length-listAt u32At memberEnd s (x .names) (x .count))) (omega arith) (omega arith)
+    (f ∙ ap (sets out at) (ap (λ (k : ℕ). slice p k s) (h .end) ∙ wait-copied s p bs (h .inside)) ∙ rw ms)
 
-pub put-one : {b : Bool} {c : Clock} {xs ys : List ℕ} {most : ℕ} {out : List ℕ} {at : ℕ} {out′ : List ℕ} {r : Putting} → waiting.PutWait b c xs ys most out at out′ r → r .count ≤ 1
-put-one {b} {c} {xs} {ys} k = let e = k .count in let f = go b in omega arith
+-- one whose clock is copied, with other members
+pub put-united : (s : List ℕ) (p : ℕ) (x : Part) (ms : List ℕ) (most : ℕ) (out : List ℕ) (at : ℕ) (b : Bool) (n long r : ℕ) (out₁ out₂ out₃ : List ℕ) → Bytes s → waiting.Whole s p x → b ≡ false → n ≡ u32At s p → long ≡ 4 + 12 * n
+    → out₁ ≡ sets out at (slice p (p + long) s) → waiting.WroteMembers out₁ (at + long + 4) ms out₂ most r → out₃ ≡ sets out₂ (at + long) (le32 r)
+    → waiting.PutWait b (clockAt s p) ms most out at out₃ (record { long = long + 4 + 4 * r; count = 1; names = r })
+unfolding waitEndIn clockEndIn
+put-united s p x ms most out at b n long r out₁ out₂ out₃ bs h e en el f w g =
+    let c = clockAt s p in
+    let lc = length-clockAt s p in
+    let ce : p + long ≡ clockEnd s p = omega arith in
+    let lr : long ≡ length (encodeClock c) = let k = length-clock c in omega arith in
+    let cl : out₁ ≡ sets out at (encodeClock c) = f ∙ ap (sets out at) (ap (λ (k : ℕ). slice p k s) ce ∙ clock-copied s p bs (h .inside)) in
+    put-some c ms most out at b (long + 4 + 4 * r) r out₃ e (w .count) (w .few) (omega arith)
+    (g ∙ ap (λ (l : List ℕ). sets l (at + long) (le32 r)) (w .bytes ∙ ap (λ (j : ℕ). sets out₁ j (encodeMembers ms)) (ap (λ (j : ℕ). at + long + j) (sym (length-le32 r))))
+    ∙ sets-before out₁ (at + long) (le32 r) (encodeMembers ms)
+    ∙ rw (cl, lr, w .count) (sym (sets-append out at (encodeClock c) (le32 (length ms) ++ encodeMembers ms))))
+
+pub whole-end : {s : List ℕ} {p : ℕ} {x : Part} → waiting.Whole s p x → p ≤ x .end
+whole-end {s} {p} h = let e = h .end in let w = wait-end s p in omega arith
+
+pub names-inside : {s : List ℕ} {p : ℕ} {x : Part} → waiting.Whole s p x → x .names + 4 * x .count ≤ length s
+unfolding waitEndIn
+names-inside h = let n = h .names in let c = h .count in let i = h .inside in omega arith
+
+-- the members of one side alone, or the same of both
+pub only-left-named : (xs t : List ℕ) (q n : ℕ) → n ≡ 0 → Normal memberSets xs → xs ≡ bothSets xs (membersAt t q n)
+unfolding listAt
+only-left-named xs t q n e h = rw e (sym (sets-left xs h))
+
+pub only-right-named : (s : List ℕ) (p n : ℕ) (ys : List ℕ) → n ≡ 0 → Normal memberSets ys → ys ≡ bothSets (membersAt s p n) ys
+unfolding listAt
+only-right-named s p n ys e h = rw e (sym (sets-right ys h))
+
+pub same-named : (xs ys : List ℕ) → xs ≡ ys → Normal memberSets xs → xs ≡ bothSets xs ys
+same-named xs ys e h = rw (← e) (sym (sets-same xs h))
+
+-- the same members, at most as many
+pub put-same : {b : Bool} {c : Clock} {ms ms′ : List ℕ} {most most′ : ℕ} {out : List ℕ} {at : ℕ} {out′ : List ℕ} {r : Putting} → ms ≡ ms′ → most ≤ most′ → waiting.PutWait b c ms most out at out′ r → waiting.PutWait b c ms′ most′ out at out′ r
+put-same {b} {c} {ms} {ms′} {most} {most′} {out} {at} {out′} {r} e h k =
+    let w : waiting.PutWait b c ms most′ out at out′ r = record { count = k .count; long = k .long; names = k .names; short = let s = k .short in omega arith; bytes = k .bytes } in
+    rw e at w
+
+pub put-size : {b : Bool} {c : Clock} {ms : List ℕ} {most : ℕ} {out : List ℕ} {at : ℕ} {out′ : List ℕ} {r : Putting} → waiting.PutWait b c ms most out at out′ r → length out′ ≡ length out
+put-size {b} {c} {ms} {most} {out} {at} k = ap length (k .bytes) ∙ length-sets out at (encodeWaits (cons? (waiting.waitOf b c ms) []))
+
+pub put-one : {b : Bool} {c : Clock} {ms : List ℕ} {most : ℕ} {out : List ℕ} {at : ℕ} {out′ : List ℕ} {r : Putting} → waiting.PutWait b c ms most out at out′ r → r .count ≤ 1
+put-one {b} {c} {ms} k = let e = k .count in let f = go b in omega arith
   where
-    go : (b : Bool) → length (cons? (waiting.waitOf b c xs ys) []) ≤ 1
+    go : (b : Bool) → length (cons? (waiting.waitOf b c ms) []) ≤ 1
     go true = omega arith
     go false = omega arith
 
@@ -118,10 +150,6 @@ pub end-ge : (s : List ℕ) (p m : ℕ) → p ≤ waitsEnd s p m
 unfolding endAfter waitEndIn clockEndIn
 end-ge s p zero = omega arith
 end-ge s p (suc m) = let h = end-ge s (waitEnd s p) m in omega arith
-
-wait-end : (s : List ℕ) (p : ℕ) → waitEnd s p ≡ p + (8 + 12 * u32At s p + 4 * u32At s (clockEnd s p))
-unfolding waitEndIn clockEndIn
-wait-end s p = omega arith
 
 pub part-none : (s : List ℕ) (p e n taken : ℕ) → n ≡ u32At s p → e ≡ p + 4 + 12 * n → n < 4294967296 → p < 4294967296 → taken ≡ 0 → waiting.PartAt s p taken (record { names = e + 4; count = 0; end = p })
 unfolding clockEndIn
@@ -145,12 +173,12 @@ pub record WaitSide (s : List ℕ) (p m : ℕ) (b : Bool) (x : Part) : Type 0 wh
   pub long : x .end ≡ p + pick b (8 + 12 * u32At s p + 4 * x .count) 0
   pub none-left : b ≡ false → x .count ≡ 0
   pub rise : Rise memberRows (membersAt s (x .names) (x .count))
-  pub few : b ≡ true → u32At s p ≤ 16
+  pub whole : b ≡ true → waiting.Whole s p x
   pub named : x .count ≤ 512
 
-pub wait-side : (s : List ℕ) (p m : ℕ) (b : Bool) (x : Part) → waiting.PartAt s p (pick b 1 0) x → pick b 1 0 ≤ m → All waiting.Sound (waitsAt s p m) → WaitSide s p m b x
+pub wait-side : (s : List ℕ) (p m : ℕ) (b : Bool) (x : Part) → waiting.PartAt s p (pick b 1 0) x → pick b 1 0 ≤ m → All waiting.Sound (waitsAt s p m) → waitsEnd s p m ≤ length s → WaitSide s p m b x
 unfolding listAt waitIn endAfter
-wait-side s p m false x h f g =
+wait-side s p m false x h f g r =
     let y : m - 0 ≡ m = omega arith in
     let ec = h .count in
     record {
@@ -161,14 +189,15 @@ wait-side s p m false x h f g =
       long = h .end ∙ sym (add-zero p);
       none-left = λ e. ec;
       rise = rw ec tt;
-      few = λ e. absurd (false≢true e);
+      whole = λ e. absurd (false≢true e);
       named = omega arith;
     }
-wait-side s p zero true x h f g = absurd (omega arith)
-wait-side s p (suc m) true x h f g =
+wait-side s p zero true x h f g r = absurd (omega arith)
+wait-side s p (suc m) true x h f g r =
     let y : suc m - 1 ≡ m = omega arith in
     let mem : membersAt s (x .names) (x .count) ≡ waitAtPlace s p .members = rw (h .names, h .count) in
     let we = wait-end s p in let ec = h .count in let ee = h .end in
+    let few : x .count ≤ 512 = let l = length-listAt u32At (λ s p. p + 4) s (clockEnd s p + 4) (u32At s (clockEnd s p)) in let n = g .0 .named in omega arith in
     record {
       fits = f;
       rows = rw (h .end, y);
@@ -177,8 +206,16 @@ wait-side s p (suc m) true x h f g =
       long = omega arith;
       none-left = λ e. absurd (false≢true (sym e));
       rise = rw mem (g .0 .members-ok .asc);
-      few = λ e. rw (length-clockAt s p) at (g .0 .few);
-      named = let l = length-listAt u32At (λ s p. p + 4) s (clockEnd s p + 4) (u32At s (clockEnd s p)) in let n = g .0 .named in omega arith;
+      whole = λ e. record {
+        few = rw (length-clockAt s p) at (g .0 .few);
+        names = h .names;
+        count = ec;
+        end = ee;
+        inside = let k = end-ge s (waitEnd s p) m in omega arith;
+        normal = rw mem (g .0 .members-ok);
+        named = few;
+      };
+      named = few;
     }
 
 -- ---- the turn
@@ -273,8 +310,8 @@ turned s t w side i j x y h e ei ej px py =
       o = o;
       turn = refl;
       is = e;
-      left = wait-side s (w .p) (w .m) (takesLeft o) x (rw ti at px) (rw lx at (taken-left xs ys (omega arith))) (h .left-sound);
-      right = wait-side t (w .q) (w .k) (takesRight o) y (rw tj at py) (rw ly at (taken-right xs ys (omega arith))) (h .right-sound);
+      left = wait-side s (w .p) (w .m) (takesLeft o) x (rw ti at px) (rw lx at (taken-left xs ys (omega arith))) (h .left-sound) (h .left-inside);
+      right = wait-side t (w .q) (w .k) (takesRight o) y (rw tj at py) (rw ly at (taken-right xs ys (omega arith))) (h .right-sound) (h .right-inside);
     }
 
 -- the numbers of a turn: which side has the clock, and how many bytes both take
@@ -283,8 +320,10 @@ pub starts-small : {s t : List ℕ} {w : Waits} → waiting.WaitsAhead s t w →
 starts-small {s} {t} {w} h = let a = end-ge s (w .p) (w .m) in let b = end-ge t (w .q) (w .k) in let ea = h .left-edge in let eb = h .right-edge in (omega arith, omega arith)
 
 pub record Numbers (s t : List ℕ) (w : Waits) (side i j : ℕ) (x y : Part) : Type 0 where
-  pub left-few : (side ≡ 2 → ⊥) → u32At s (w .p) ≤ 16
-  pub right-few : side ≡ 2 → u32At t (w .q) ≤ 16
+  pub left : (side ≡ 2 → ⊥) → waiting.Whole s (w .p) x
+  pub right : (side ≡ 0 → ⊥) → waiting.Whole t (w .q) y
+  pub left-none : side ≡ 2 → x .count ≡ 0
+  pub right-none : side ≡ 0 → y .count ≡ 0
   pub left-fits : i ≤ w .m
   pub right-fits : j ≤ w .k
   pub moves : 0 < i + j
@@ -298,16 +337,16 @@ numbers s t w side i j x y ei ej d = go (d .o) (d .is) (d .left) (d .right)
     go : (o : Ordering) → side ≡ waiting.orderOf o → WaitSide s (w .p) (w .m) (takesLeft o) x → WaitSide t (w .q) (w .k) (takesRight o) y → Numbers s t w side i j x y
     go Ordering·lt e l r =
         let li : i ≡ 1 = ei ∙ rw e in let lj : j ≡ 0 = ej ∙ rw e in
-        let el = l .long in let er = r .long in let z = r .none-left refl in let fi = l .fits in let nl = l .named in let nr = r .named in let cf = l .few refl in
-        record { clock-few = rw e cf; few = omega arith; left-few = λ n. l .few refl; right-few = λ n. absurd (omega arith); left-fits = omega arith; right-fits = omega arith; moves = omega arith; room = rw e (omega arith) }
+        let el = l .long in let er = r .long in let z = r .none-left refl in let fi = l .fits in let nl = l .named in let nr = r .named in let cf = l .whole refl .few in
+        record { clock-few = rw e cf; few = omega arith; left = λ n. l .whole refl; right = λ n. absurd (n e); left-none = λ n. absurd (omega arith); right-none = λ n. z; left-fits = omega arith; right-fits = omega arith; moves = omega arith; room = rw e (omega arith) }
     go Ordering·eq e l r =
         let li : i ≡ 1 = ei ∙ rw e in let lj : j ≡ 1 = ej ∙ rw e in
-        let el = l .long in let er = r .long in let fi = l .fits in let fj = r .fits in let nl = l .named in let nr = r .named in let cf = l .few refl in
-        record { clock-few = rw e cf; few = omega arith; left-few = λ n. l .few refl; right-few = λ n. absurd (omega arith); left-fits = omega arith; right-fits = omega arith; moves = omega arith; room = rw e (omega arith) }
+        let el = l .long in let er = r .long in let fi = l .fits in let fj = r .fits in let nl = l .named in let nr = r .named in let cf = l .whole refl .few in
+        record { clock-few = rw e cf; few = omega arith; left = λ n. l .whole refl; right = λ n. r .whole refl; left-none = λ n. absurd (omega arith); right-none = λ n. absurd (omega arith); left-fits = omega arith; right-fits = omega arith; moves = omega arith; room = rw e (omega arith) }
     go Ordering·gt e l r =
         let li : i ≡ 0 = ei ∙ rw e in let lj : j ≡ 1 = ej ∙ rw e in
-        let el = l .long in let er = r .long in let z = l .none-left refl in let fj = r .fits in let nl = l .named in let nr = r .named in let cf = r .few refl in
-        record { clock-few = rw e cf; few = omega arith; left-few = λ n. absurd (n e); right-few = λ n. r .few refl; left-fits = omega arith; right-fits = omega arith; moves = omega arith; room = rw e (omega arith) }
+        let el = l .long in let er = r .long in let z = l .none-left refl in let fj = r .fits in let nl = l .named in let nr = r .named in let cf = r .whole refl .few in
+        record { clock-few = rw e cf; few = omega arith; left = λ n. absurd (n e); right = λ n. r .whole refl; left-none = λ n. z; right-none = λ n. absurd (omega arith); left-fits = omega arith; right-fits = omega arith; moves = omega arith; room = rw e (omega arith) }
 
 pub clock-length : (side : ℕ) (s t : List ℕ) (p q : ℕ) → length (pick (eqb side 2) (clockAt t q) (clockAt s p)) ≡ pick (eqb side 2) (u32At t q) (u32At s p)
 clock-length side s t p q = go (eqb side 2)
@@ -323,7 +362,7 @@ wait-clock s p = refl
 module _ (v : Clock) (s t out : List ℕ) (w : Waits) where
   pub merged-wait : (side i j : ℕ) (x y : Part) (long count names most : ℕ) (out′ : List ℕ) → i ≡ pick (eqb side 2) 0 1 → j ≡ pick (eqb side 0) 0 1 → Turned s t w side x y
       → waiting.PutWait (coverOf v (pick (eqb side 2) (clockAt t (w .q)) (clockAt s (w .p)))) (pick (eqb side 2) (clockAt t (w .q)) (clockAt s (w .p)))
-      (membersAt s (x .names) (x .count)) (membersAt t (y .names) (y .count)) (x .count + y .count) out (w .at) out′ (record { long = long; count = count; names = names })
+      (bothSets (membersAt s (x .names) (x .count)) (membersAt t (y .names) (y .count))) (x .count + y .count) out (w .at) out′ (record { long = long; count = count; names = names })
       → most ≡ max (w .most) names
       → waiting.MergedWait v s t out w out′ (record { p = x .end; m = w .m - i; q = y .end; k = w .k - j; at = w .at + long; n = w .n + count; most = most })
   merged-wait side i j x y long count names most out′ ei ej d k em =

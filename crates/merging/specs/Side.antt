@@ -2,7 +2,7 @@
 use Prim.Native.Nat.{ℕ, _+_, _≤_, _<_, compare}
 use mathlib.Core.Path.{_≡_}
 use mathlib.Core.List.{List, [], _∷_}
-use lib.ListN.{take}
+use lib.ListN.{length, take}
 use Rattle.tables.specs.Table.{Normal, Asc}
 use Rattle.dots.specs.Dot.{clocks}
 use Rattle.clocks.specs.declared.VClock.{VClock}
@@ -43,3 +43,4 @@ pub record Brings (B : Replica) (s : List ℕ) (y : Image) : Type 0 where
   pub image : imageOf s ≡ B
   pub held : Held s y
   pub edge : waitsEnd s (waitsStart s) (waitsCount s) < 65536
+  pub inside : waitsEnd s (waitsStart s) (waitsCount s) ≤ length s

@@ -67,21 +67,41 @@ pub record PartAt (s : List ℕ) (p taken : ℕ) (r : Part) : Type 0 where
   pub end : r .end ≡ pick (eqb taken 0) p (waitEnd s p)
   pub small : r .names + 4 * r .count < 274877906944
 
--- the waiting remove of a clock and the members of two sets, unless it is covered
-abbrev pub waitOf : Bool → Clock → List ℕ → List ℕ → Option Wait
-waitOf b c xs ys = pick b none (some (record { clock = c; members = bothSets xs ys }))
+-- a waiting remove that is taken, and lies inside
+pub record Whole (s : List ℕ) (p : ℕ) (x : Part) : Type 0 where
+  pub few : u32At s p ≤ 16
+  pub names : x .names ≡ clockEnd s p + 4
+  pub count : x .count ≡ u32At s (clockEnd s p)
+  pub end : x .end ≡ waitEnd s p
+  pub inside : waitEnd s p ≤ length s
+  pub normal : Normal memberSets (membersAt s (x .names) (x .count))
+  pub named : x .count ≤ 512
+
+-- the waiting remove that is next: the one at p of s, or at q of t where side is 2; a side that doesn't have it names no members
+pub record Next (side : ℕ) (s : List ℕ) (p : ℕ) (x : Part) (t : List ℕ) (q : ℕ) (y : Part) : Type 0 where
+  pub left : (side ≡ 2 → ⊥) → Whole s p x
+  pub right : (side ≡ 0 → ⊥) → Whole t q y
+  pub left-none : side ≡ 2 → x .count ≡ 0
+  pub right-none : side ≡ 0 → y .count ≡ 0
+  pub left-small : p < 4294967296
+  pub right-small : q < 4294967296
+  pub ready : MembersReady s (x .names) (x .count) t (y .names) (y .count)
+
+-- the waiting remove of a clock and members, unless it is covered
+abbrev pub waitOf : Bool → Clock → List ℕ → Option Wait
+waitOf b c ms = pick b none (some (record { clock = c; members = ms }))
 
 -- the most members that one names
 unfoldable pub mostNamed : List Wait → ℕ
 mostNamed [] = 0
 mostNamed (w ∷ ws) = max (length (w .members)) (mostNamed ws)
 
-pub record PutWait (b : Bool) (c : Clock) (xs ys : List ℕ) (most : ℕ) (out : List ℕ) (at : ℕ) (out′ : List ℕ) (r : Put) : Type 0 where
-  pub count : r .count ≡ length (cons? (waitOf b c xs ys) [])
-  pub long : r .long ≡ length (encodeWaits (cons? (waitOf b c xs ys) []))
-  pub names : r .names ≡ mostNamed (cons? (waitOf b c xs ys) [])
+pub record PutWait (b : Bool) (c : Clock) (ms : List ℕ) (most : ℕ) (out : List ℕ) (at : ℕ) (out′ : List ℕ) (r : Put) : Type 0 where
+  pub count : r .count ≡ length (cons? (waitOf b c ms) [])
+  pub long : r .long ≡ length (encodeWaits (cons? (waitOf b c ms) []))
+  pub names : r .names ≡ mostNamed (cons? (waitOf b c ms) [])
   pub short : r .long ≤ 8 + 12 * length c + 4 * most
-  pub bytes : out′ ≡ sets out at (encodeWaits (cons? (waitOf b c xs ys) []))
+  pub bytes : out′ ≡ sets out at (encodeWaits (cons? (waitOf b c ms) []))
 
 -- ---- the walk
 
@@ -100,9 +120,11 @@ pub record WaitsAhead (s t : List ℕ) (w : Waits) : Type 0 where
   pub right-sound : All Sound (waitsAt t (w .q) (w .k))
   pub left-edge : waitsEnd s (w .p) (w .m) < 4294967296
   pub right-edge : waitsEnd t (w .q) (w .k) < 4294967296
+  pub left-inside : waitsEnd s (w .p) (w .m) ≤ length s
+  pub right-inside : waitsEnd t (w .q) (w .k) ≤ length t
 
 abbrev pub turnWait : Clock → Ordering → Wait → Wait → Option Wait
-turnWait v o x y = waitOf (coverOf v (nextClock o x y)) (nextClock o x y) (nextLeft o x) (nextRight o y)
+turnWait v o x y = waitOf (coverOf v (nextClock o x y)) (nextClock o x y) (bothSets (nextLeft o x) (nextRight o y))
 
 pub record MergedWait (v : Clock) (s t out : List ℕ) (w : Waits) (out′ : List ℕ) (w′ : Waits) : Type 0 where
   pub side : Ordering
@@ -127,6 +149,8 @@ pub record WaitsReady (v : Clock) (s : List ℕ) (p m : ℕ) (t : List ℕ) (q k
   pub right-sound : All Sound (waitsAt t q k)
   pub left-edge : waitsEnd s p m < 65536
   pub right-edge : waitsEnd t q k < 65536
+  pub left-inside : waitsEnd s p m ≤ length s
+  pub right-inside : waitsEnd t q k ≤ length t
   pub clock-ok : Normal clocks v
 
 -- waiting removes written from a place on: how many, where they end, and the most members that one names

@@ -1,18 +1,19 @@
 // Waiting removes of two sides in bytes, joined by equal clock, less those that a clock covers.
 ghost use mathlib.Core.Path.{_≡_};
+ghost use mathlib.Core.Bool.{true};
 ghost use Prim.Native.Nat.{_+_, _*_, _<_, _≤_, compare, max, min};
 ghost use lib.Dec.{eqb};
+ghost use lib.ListN.{length};
 ghost use Rattle.tables.specs.Order.{lex};
 ghost use Rattle.tables.specs.Table.{pick};
 ghost use Rattle.tables.specs.Zip.{turnOf};
 ghost use Rattle.dots.specs.Dot.{cmpDot};
 ghost use Rattle.dots.specs.Covering.{coverOf};
 ghost use Rattle.replica.specs.Replica.{waits};
-ghost use Rattle.layout.specs.Fields.{u32At};
 ghost use Rattle.layout.specs.Clock.{dotAt, dotsAt, clockAt};
 ghost use Rattle.layout.specs.Rows.{membersAt, waitsAt};
 ghost use Rattle.changing.specs.KeptWaits.{bothSets, keptWaits};
-ghost use Rattle.merging.specs.Waiting.{orderOf, dotsFrom, Named, MembersReady, WroteMembers, PartAt, PutWait, WaitsAhead, MergedWait, WaitsReady, WroteWaits};
+ghost use Rattle.merging.specs.Waiting.{orderOf, dotsFrom, Named, MembersReady, WroteMembers, PartAt, Whole, Next, PutWait, WaitsAhead, MergedWait, WaitsReady, WroteWaits};
 use crate::ahead::index;
 use crate::ahead::key_at;
 use crate::ahead::lower;
@@ -157,9 +158,9 @@ fn unite(
 
 // The members of the waiting remove at a place, and where it ends; none, and the place itself, where it isn't taken.
 pub(crate) struct Part {
-    names: usize,
+    pub(crate) names: usize,
     count: usize,
-    end: usize,
+    pub(crate) end: usize,
 }
 
 pub(crate) fn part_at(s: &[u8], p: usize, taken: usize) -> Part
@@ -185,15 +186,44 @@ pub(crate) fn part_at(s: &[u8], p: usize, taken: usize) -> Part
 // What a turn wrote: how many bytes, how many waiting removes, and how many members it names.
 pub(crate) struct Put {
     long: usize,
-    pub(crate) count: usize,
+    count: usize,
     names: usize,
 }
 
-// The waiting remove with the clock at p of c and the members of both parts, written from `at` on; nothing where the clock covers it.
-pub(crate) fn put_wait(
-    c: &[u8],
-    p: usize,
+// The waiting remove at p of s, written as it stands from `at` on; nothing where the clock covers it.
+fn copy_wait(
     s: &[u8],
+    p: usize,
+    x: Part,
+    actors: &[u32; 16],
+    k: usize,
+    line: &[u64; 16],
+    out: &mut [u8],
+    at: usize,
+) -> Put
+    requires { ⌜ Whole (now s) p x × (p < 4294967296) × (k ≤ 16) ⌝ }
+    ensures { λ r. ⌜ PutWait (coverOf (dotsFrom (now (actors .entry)) (now (line .entry)) 0 k) (clockAt (now (s .entry)) p)) (clockAt (now (s .entry)) p) (membersAt (now (s .entry)) (x .names) (x .count)) (x .count) (now (out .entry)) at (now (out .exit)) r ⌝ }
+{
+    let n = index(fields::u32_at(s, p));
+    if covered(s, p + 4, n, actors, k, line) {
+        return Put {
+            long: 0,
+            count: 0,
+            names: 0,
+        };
+    }
+    results::copy(s, p, x.end, out, at);
+    Put {
+        long: x.end - p,
+        count: 1,
+        names: x.count,
+    }
+}
+
+// The waiting remove at p of s with the members of both parts, written from `at` on; nothing where the clock covers it.
+fn put_wait(
+    s: &[u8],
+    p: usize,
     x: Part,
     t: &[u8],
     y: Part,
@@ -203,22 +233,24 @@ pub(crate) fn put_wait(
     out: &mut [u8],
     at: usize,
 ) -> Put
-    requires { ⌜ (p < 4294967296) × (u32At (now c) p ≤ 16) × (k ≤ 16) × (at < 274877906944) × (x .count + y .count ≤ 1024) × MembersReady (now s) (x .names) (x .count) (now t) (y .names) (y .count) ⌝ }
-    ensures { λ r. ⌜ PutWait (coverOf (dotsFrom (now (actors .entry)) (now (line .entry)) 0 k) (clockAt (now (c .entry)) p)) (clockAt (now (c .entry)) p) (membersAt (now (s .entry)) (x .names) (x .count)) (membersAt (now (t .entry)) (y .names) (y .count)) (x .count + y .count) (now (out .entry)) at (now (out .exit)) r ⌝ }
+    requires { ⌜ Whole (now s) p x × (p < 4294967296) × (k ≤ 16) × (at < 274877906944) × (y .count ≤ 512) × MembersReady (now s) (x .names) (x .count) (now t) (y .names) (y .count) ⌝ }
+    ensures { λ r. ⌜ PutWait (coverOf (dotsFrom (now (actors .entry)) (now (line .entry)) 0 k) (clockAt (now (s .entry)) p)) (clockAt (now (s .entry)) p) (bothSets (membersAt (now (s .entry)) (x .names) (x .count)) (membersAt (now (t .entry)) (y .names) (y .count))) (x .count + y .count) (now (out .entry)) at (now (out .exit)) r ⌝ }
 {
-    let n = index(fields::u32_at(c, p));
-    if covered(c, p + 4, n, actors, k, line) {
+    let n = index(fields::u32_at(s, p));
+    if covered(s, p + 4, n, actors, k, line) {
         return Put {
             long: 0,
             count: 0,
             names: 0,
         };
     }
-    let e = at + fields::put_clock(out, at, fields::clock_at(c, p));
+    let long = 4 + 12 * n;
+    results::copy(s, p, p + long, out, at);
+    let e = at + long;
     let names = unite(s, x.names, x.count, t, y.names, y.count, out, e + 4);
     fields::put_u32(out, e, names as u32);
     Put {
-        long: e - at + 4 + 4 * names,
+        long: long + 4 + 4 * names,
         count: 1,
         names,
     }
@@ -250,7 +282,25 @@ fn more(x: usize, y: usize) -> usize
     if x < y { y } else { x }
 }
 
-// The waiting remove that is next, with the clock of whichever side it is on.
+// Whether the n members at p of s are the m at q of t.
+fn same_members(s: &[u8], p: usize, n: usize, t: &[u8], q: usize, m: usize) -> bool
+    requires { ⌜ (p + 4 * n ≤ length (now s)) × (q + 4 * m ≤ length (now t)) ⌝ }
+    ensures { λ r. ⌜ (r ≡ true → membersAt (now (s .entry)) p n ≡ membersAt (now (t .entry)) q m) ⌝ }
+{
+    if n != m {
+        return false;
+    }
+    let mut i: usize = 0;
+    while i < n {
+        if fields::u32_at(s, p + 4 * i) != fields::u32_at(t, q + 4 * i) {
+            return false;
+        }
+        i += 1;
+    }
+    true
+}
+
+// The waiting remove that is next, with the members of each side that has it: copied, unless both have it and name other members.
 fn put_next(
     side: usize,
     s: &[u8],
@@ -265,14 +315,19 @@ fn put_next(
     out: &mut [u8],
     at: usize,
 ) -> Put
-    requires { ⌜ (p < 4294967296) × (q < 4294967296) × ((side ≡ 2 → ⊥) → u32At (now s) p ≤ 16) × (side ≡ 2 → u32At (now t) q ≤ 16) × (k ≤ 16) × (at < 274877906944) × (x .count + y .count ≤ 1024) × MembersReady (now s) (x .names) (x .count) (now t) (y .names) (y .count) ⌝ }
-    ensures { λ r. ⌜ PutWait (coverOf (dotsFrom (now (actors .entry)) (now (line .entry)) 0 k) (pick (eqb side 2) (clockAt (now (t .entry)) q) (clockAt (now (s .entry)) p))) (pick (eqb side 2) (clockAt (now (t .entry)) q) (clockAt (now (s .entry)) p)) (membersAt (now (s .entry)) (x .names) (x .count)) (membersAt (now (t .entry)) (y .names) (y .count)) (x .count + y .count) (now (out .entry)) at (now (out .exit)) r ⌝ }
+    requires { ⌜ Next side (now s) p x (now t) q y × (k ≤ 16) × (at < 274877906944) ⌝ }
+    ensures { λ r. ⌜ PutWait (coverOf (dotsFrom (now (actors .entry)) (now (line .entry)) 0 k) (pick (eqb side 2) (clockAt (now (t .entry)) q) (clockAt (now (s .entry)) p))) (pick (eqb side 2) (clockAt (now (t .entry)) q) (clockAt (now (s .entry)) p)) (bothSets (membersAt (now (s .entry)) (x .names) (x .count)) (membersAt (now (t .entry)) (y .names) (y .count))) (x .count + y .count) (now (out .entry)) at (now (out .exit)) r ⌝ }
 {
     if side == 2 {
-        put_wait(t, q, s, x, t, y, actors, k, line, out, at)
-    } else {
-        put_wait(s, p, s, x, t, y, actors, k, line, out, at)
+        return copy_wait(t, q, y, actors, k, line, out, at);
     }
+    if side == 0 {
+        return copy_wait(s, p, x, actors, k, line, out, at);
+    }
+    if same_members(s, x.names, x.count, t, y.names, y.count) {
+        return copy_wait(s, p, x, actors, k, line, out, at);
+    }
+    put_wait(s, p, x, t, y, actors, k, line, out, at)
 }
 
 // The next waiting remove: written, unless it is covered, and stepped past.

@@ -22,8 +22,19 @@ counted c = numbers _ _ _ _ _ _ _ _ (c .before .before .before .unless .ensures)
 
 put-next-requires : tie.Need-put-next-requires
 put-next-requires c κs =
-    let p = c .before .before .before .before .before .before .before .before .before .pre in let e = starts-small (p .0) in let d = turn (c .before) in let n = counted (c .before) in
-    (e .0, e .1, n .left-few, n .right-few, p .1, p .2, n .few, record { left-rise = d .left .rise; right-rise = d .right .rise; left-edge = c .before .before .part-at .ensures .small; right-edge = c .before .part-at2 .ensures .small })
+    let p = c .before .before .before .before .before .before .before .before .before .pre in let e = starts-small (p .0) in let d = turn (c .before) in let n = counted (c .before) in (
+      record {
+        left = n .left;
+        right = n .right;
+        left-none = n .left-none;
+        right-none = n .right-none;
+        left-small = e .0;
+        right-small = e .1;
+        ready = record { left-rise = d .left .rise; right-rise = d .right .rise; left-edge = c .before .before .part-at .ensures .small; right-edge = c .before .part-at2 .ensures .small };
+      },
+      p .1,
+      p .2,
+    )
 
 sub-t16 : tie.Need-sub-t16
 sub-t16 c = let f = counted (c .before .before .before .before .before) .left-fits in omega arith
