@@ -24,11 +24,11 @@ use Rattle.layout.specs.Checks.{passed}
 use Rattle.image.specs.declared.Image.{Image}
 use Rattle.image.specs.Image.{imageOfBytes, checkImage}
 use Rattle.image.proofs.Link.{image-good}
-use Rattle.checked.proofs.Known.{Known}
+use Rattle.checked.proofs.Known.{known}
 use Rattle.kills.specs.Laws.{along-is}
 use Rattle.kills.proofs.Steps.{taken}
 use Rattle.validating.specs.declared.Validation.the-variants.{BadFirst, BadSecond}
-use Rattle.validating.specs.Search.{Sight, sight, spotted, withCounts, sights, sightsBeside, sightsOf, verdict, Stand}
+use Rattle.validating.specs.Search.{Sight, sight, spotted, withCounts, sights, sightsBeside, sightsOf, verdict, Listed}
 use Rattle.validating.specs.Calls.{Validated, validationSays, validateMergeCall}
 
 mapped-append : {X Y : Type 0} (f : X → Y) (xs ys : List X) → map f (xs ++ ys) ≡ map f xs ++ map f ys
@@ -45,7 +45,7 @@ first-mapped {X} {Y} f p (x ∷ xs) = go (p (f x)) (first-mapped f p xs)
 
 -- ---- the sights are the triples
 
-abbrev sightOf : Triple → Sight
+abbrev pub sightOf : Triple → Sight
 sightOf t = sight (t .our .member) (t .their .member) (t .dot) (count (t .their .clock) (actorOf (t .dot)))
 
 abbrev Ascends : Entry → Type 0
@@ -55,7 +55,7 @@ counts-are : (o t : Entry) (ds : Clock) → withCounts (o .member) (t .member) d
 counts-are o t [] = refl
 counts-are o t (d ∷ ds) = ap (λ (l : List Sight). sight (o .member) (t .member) d (count (t .clock) (actorOf d)) ∷ l) (counts-are o t ds)
 
-sights-are : (o t : Entry) → Ascends o → Ascends t → sights (o .member) (t .member) (o .clock) (t .clock) ≡ map sightOf (map (λ d. record { our = o; their = t; dot = d }) (o .clock))
+pub sights-are : (o t : Entry) → Ascends o → Ascends t → sights (o .member) (t .member) (o .clock) (t .clock) ≡ map sightOf (map (λ d. record { our = o; their = t; dot = d }) (o .clock))
 sights-are o t p q = ap (withCounts (o .member) (t .member) (o .clock)) (along-is dots (map (λ d. actorOf d) (o .clock)) (t .clock) p q) ∙ counts-are o t (o .clock)
 
 beside-are : (o : Entry) (ts : List Entry) → Ascends o → All Ascends ts → sightsBeside o ts ≡ map sightOf (withTheirs o ts)
@@ -91,9 +91,9 @@ found-is A B p q =
 -- ---- of two images
 
 -- the entries of a good image stand at its places
-pub stand : (s : List ℕ) (x : Image) → x ≡ checkImage s → x .good ≡ true → Stand s (x .places) (x .entries)
+pub listed : (s : List ℕ) (x : Image) → x ≡ checkImage s → x .good ≡ true → Listed s (x .places) (x .entries)
 unfolding imageOfBytes
-stand s x c g =
+listed s x c g =
     let t = image-good s x c true g in
     let h = passed s (t .0) in
     let n = entriesCount s in
@@ -101,7 +101,11 @@ stand s x c g =
     let k : x .entries ≡ n = ap (λ (y : Image). y .entries) (t .1) in
     let w : take (x .entries) (x .places) ≡ ps =
     ap (λ (y : Image). take (y .entries) (y .places)) (t .1) ∙ taken (replicate 64 0) ps n (length-startsAt rowEnd s (entriesStart s) n) (h .few-members) in
+    let f = known s x c g in
     record {
+      few = f .few;
+      good = f .is-good;
+      rows = f .rows-are;
       clock = λ i l. let q : getD (x .places) i 0 ≡ getD ps i 0 = sym (getD-take (x .entries) (x .places) i 0 l) ∙ ap (λ (y : List ℕ). getD y i 0) w in
           rw q (stands s (getD ps i 0 + 4) (place-good s (entriesStart s) 0 n i (h .rows-good) (omega arith)));
     }
@@ -118,9 +122,9 @@ module _ (a b : List ℕ) where
       go none = refl
       go (some x) = refl
 
-  pub both-found : (x y : Image) → Known a x → Known b y
-      → validationSays (verdict (first spotted (sightsOf (map (rowAt a) (take (x .entries) (x .places))) (map (rowAt b) (take (y .entries) (y .places)))))) ≡ validateMergeCall a b
-  both-found x y h k = rw (h .rows-are, k .rows-are) (both-good (h .is-good) (k .is-good))
+  pub both-found : (ours theirs : List ℕ) (na nb : ℕ) → Listed a ours na → Listed b theirs nb
+      → validationSays (verdict (first spotted (sightsOf (map (rowAt a) (take na ours)) (map (rowAt b) (take nb theirs))))) ≡ validateMergeCall a b
+  both-found ours theirs na nb h k = rw (h .rows, k .rows) (both-good (h .good) (k .good))
 
   pub bad-second : goodImage a ≡ true → goodImage b ≡ false → validationSays BadSecond ≡ validateMergeCall a b
   unfolding validateMergeCall firstOf validationSays

@@ -1,12 +1,13 @@
 -- What is ahead in each of the three loops, and what one turn does to it, in the code's terms.
 use Prim.Native.Nat.{ℕ, zero, suc, _+_, _-_, _*_, _≤_, _<_}
 use mathlib.Core.Path.{_≡_, refl, sym, ap, _∙_}
-use mathlib.Core.Bool.{Bool, true, false, not, _&&_}
-use mathlib.Core.List.{List, _∷_, _++_, map, append-assoc}
+use mathlib.Core.Bool.{true, false}
+use mathlib.Core.List.{List, [], _∷_, _++_, map, append-assoc}
 use native.Mathlib.Omega.{arith}
-use lib.Dec.{eqb}
-use lib.ListN.{length, take, getD}
-use lib.Seq.{slice}
+use lib.ListN.{length, take, set, getD}
+use lib.Seq.{sets, slice}
+use borrow.Author.Tests.{eq-eqb, ne-eqb}
+use Rattle.tables.specs.Table.{All}
 use Rattle.tables.specs.Zip.{said}
 use Rattle.dots.specs.declared.Dot.{Dot}
 use Rattle.dots.specs.Dot.{actorOf, dot, dots}
@@ -17,14 +18,14 @@ use Rattle.replica.specs.Validate.{first}
 use Rattle.layout.specs.Fields.{u32At, u64At}
 use Rattle.layout.specs.Lists.{listAt}
 use Rattle.layout.specs.Kit.{Stands}
-use Rattle.layout.specs.Clock.{dotIn, dotAt, dotsAt, clockIn}
+use Rattle.layout.specs.Clock.{dotIn, dotAt, dotsAt, clockIn, clockAt}
 use Rattle.layout.specs.Rows.{rowIn, rowAt}
 use Rattle.fields.proofs.Steps.{list-step, list-end}
 use Rattle.kills.specs.Lines.{reach, along}
 use Rattle.kills.proofs.Steps.{skip-dot, stop-dot, end-dot, counted-none, counted-first, counted-other}
 use Rattle.validating.specs.declared.Validation.{Validation}
 use Rattle.validating.specs.declared.Validation.the-variants.{Valid, DoubleSpent}
-use Rattle.validating.specs.Search.{Sight, sight, spotted, sights, sightsBeside, sightsOf, verdict, Stand, Walked}
+use Rattle.validating.specs.Search.{Sight, sight, spotted, withCounts, sights, sightsBeside, sightsOf, verdict, Listed, Walked, keyOf, keysOf}
 
 -- ---- the walk past an actor, with the dots from p on ahead
 
@@ -54,7 +55,7 @@ along-later s p zero actor cs rest h f = refl
 along-later s p (suc n) actor cs rest h f = ap (λ (l : List Dot). said dots (u32At s p) l ∷ along dots (map (λ d. actorOf d) (dotsAt s (p + 12) n)) l) (f (u32At s p) (h (omega arith)))
 
 -- dots that rise: each actor is below the next
-rising-next : (s : List ℕ) (p low n k : ℕ) → rising low (dotsAt s p n) ≡ true → k + 1 < n → u32At s (p + 12 * k) < u32At s (p + 12 * (k + 1))
+pub rising-next : (s : List ℕ) (p low n k : ℕ) → rising low (dotsAt s p n) ≡ true → k + 1 < n → u32At s (p + 12 * k) < u32At s (p + 12 * (k + 1))
 unfolding dotIn
 rising-next s p low n zero r h =
     let f = first-of low (dotAt s p) (dotsAt s (p + 12) (n - 1)) (rw (list-step dotAt (λ s p. p + 12) s p n (n - 1) (omega arith)) at r) in
@@ -73,6 +74,54 @@ unfolding clockIn
 next-above s p n k actor h e f l =
     let x : p + 4 + 4 ≡ p + 8 = omega arith in
     rw f (rising-next s (p + 8) 0 n k (rw (x, ← e) at (h .rises)) l)
+
+-- ---- keys along the actors of a clock that stands in bytes
+
+module _ (v s out : List ℕ) (missing n k at place left : ℕ) where
+  -- k of the n actors are past, and `left` dots are ahead
+  unfoldable pub atKeys : List ℕ
+  atKeys = sets out (at + k) (keysOf missing (dotsAt v (28 + 12 * k) (n - k)) (dotsAt s place left))
+
+  pub keys-end : n ≤ k → atKeys ≡ out
+  unfolding atKeys keysOf
+  keys-end h = rw (list-end dotAt (λ s p. p + 12) v (28 + 12 * k) (n - k) (omega arith))
+
+pub keys-turn : (v s out : List ℕ) (missing n k at place left actor got x z others : ℕ) → k < n → rising 0 (dotsAt v 28 n) ≡ true → actor ≡ u32At v (28 + 12 * k) → Walked (dotsAt s place left) (dotsAt s z others) actor got → x ≡ keyOf missing got
+    → atKeys v s (set out (at + k) x) missing n (k + 1) at z others ≡ atKeys v s out missing n k at place left
+unfolding atKeys keysOf dotIn
+keys-turn v s out missing n k at place left actor got x z others h r ea w ex =
+    let y : 28 + 12 * k + 12 ≡ 28 + 12 * (k + 1) = omega arith in
+    let g : at + (k + 1) ≡ suc (at + k) = omega arith in
+    let f = along-later v (28 + 12 * (k + 1)) (n - (k + 1)) actor (reach dots actor (dotsAt s place left)) (dotsAt s z others) (λ l. rw ea (rising-next v 28 0 n k r (omega arith))) (w .later) in
+    rw (list-step dotAt (λ s p. p + 12) v (28 + 12 * k) (n - k) (n - (k + 1)) (omega arith), ← ea, y, f, ← (w .counted), ← ex, g)
+
+pub keys-start : (v s out : List ℕ) (missing n at p left : ℕ) → left ≡ u32At s (p + 4) → atKeys v s out missing n 0 at (p + 8) left ≡ sets out at (keysOf missing (dotsAt v 28 n) (clockAt s (p + 4)))
+unfolding atKeys clockIn
+keys-start v s out missing n at p left e =
+    let x : p + 8 ≡ p + 4 + 4 = omega arith in
+    let y : at + 0 ≡ at = omega arith in
+    let z : n - 0 ≡ n = omega arith in
+    rw (x, y, z, e)
+
+-- ---- sights that are not reported
+
+abbrev pub Unspotted : List Sight → Type 0
+Unspotted xs = All (λ s. spotted s ≡ false) xs
+
+none-first : (xs ys : List Sight) → Unspotted xs → first spotted (xs ++ ys) ≡ first spotted ys
+none-first [] ys h = refl
+none-first (x ∷ xs) ys h = rw (h .0) (none-first xs ys (h .1))
+
+-- a dot that both hold for the same member
+same-member : (m : ℕ) (ds : List Dot) (ns : List ℕ) → Unspotted (withCounts m m ds ns)
+unfolding spotted
+same-member m [] ns = tt
+same-member m (d ∷ ds) [] = tt
+same-member m (d ∷ ds) (n ∷ ns) = (rw (eq-eqb m m refl), same-member m ds ns)
+
+pub same-row : (s t : List ℕ) (p q our their : ℕ) → our ≡ u32At s p → their ≡ u32At t q → our ≡ their → Unspotted (sights (rowAt s p .member) (rowAt t q .member) (rowAt s p .clock) (rowAt t q .clock))
+unfolding rowIn
+same-row s t p q our their e f h = rw (← e, ← f, ← h) (same-member our (clockAt s (p + 4)) (along dots (map (λ d. actorOf d) (clockAt s (p + 4))) (clockAt t (q + 4))))
 
 module _ (a ours : List ℕ) (na : ℕ) (b theirs : List ℕ) (nb : ℕ) where
   abbrev they : List Entry
@@ -106,6 +155,14 @@ module _ (a ours : List ℕ) (na : ℕ) (b theirs : List ℕ) (nb : ℕ) where
       unfolding atTheirs atOurs
       their-end h = rw (done theirs j nb h)
 
+      -- an entry of theirs at q that has no sight to report
+      pub their-past : (q : ℕ) → j < nb → nb ≤ length theirs → q ≡ getD theirs j 0 → Unspotted (sights (rowAt a p .member) (rowAt b q .member) (rowAt a p .clock) (rowAt b q .clock)) → atTheirs i p j ≡ atTheirs i p (j + 1)
+      unfolding atTheirs
+      their-past q h l e u =
+          let x = sightsBeside (rowAt a p) (map (rowAt b) (slice (j + 1) nb theirs)) in
+          let z = sights (rowAt a p .member) (rowAt b q .member) (rowAt a p .clock) (rowAt b q .clock) in
+          rw (ahead theirs j nb 0 h l, ← e, append-assoc z x (later i), none-first z (x ++ later i) u)
+
       module _ (our n their : ℕ) where
         pub their-row : (q y left : ℕ) → j < nb → nb ≤ length theirs → q ≡ getD theirs j 0 → our ≡ u32At a p → n ≡ u32At a (p + 4) → their ≡ u32At b q → y ≡ q + 8 → left ≡ u32At b (q + 4)
             → atTheirs i p j ≡ atActors i p our n j their 0 y left
@@ -121,8 +178,8 @@ module _ (a ours : List ℕ) (na : ℕ) (b theirs : List ℕ) (nb : ℕ) where
           unfolding atActors atTheirs
           dot-end h = rw (list-end dotAt (λ s p. p + 12) a (p + 8 + 12 * k) (n - k) (omega arith))
 
-          module _ (actor counter z others got : ℕ) (r : Bool) (h : k < n) (ea : actor ≡ u32At a (p + 8 + 12 * k)) (ec : counter ≡ u64At a (p + 8 + 12 * k + 4))
-              (up : k + 1 < n → actor < u32At a (p + 8 + 12 * (k + 1))) (w : Walked (dotsAt b y left) (dotsAt b z others) actor got) (er : r ≡ (not (eqb our their) && eqb got counter)) where
+          module _ (actor counter z others got : ℕ) (h : k < n) (ea : actor ≡ u32At a (p + 8 + 12 * k)) (ec : counter ≡ u64At a (p + 8 + 12 * k + 4))
+              (up : k + 1 < n → actor < u32At a (p + 8 + 12 * (k + 1))) (w : Walked (dotsAt b y left) (dotsAt b z others) actor got) (ne : our ≡ their → ⊥) where
             abbrev ahead-here : List Sight
             ahead-here = sights our their (dotsAt a (p + 8 + 12 * (k + 1)) (n - (k + 1))) (dotsAt b z others) ++ (sightsBeside (rowAt a p) (map (rowAt b) (slice (j + 1) nb theirs)) ++ later i)
 
@@ -133,16 +190,16 @@ module _ (a ours : List ℕ) (na : ℕ) (b theirs : List ℕ) (nb : ℕ) where
                 let f = along-later a (p + 8 + 12 * (k + 1)) (n - (k + 1)) actor (reach dots actor (dotsAt b y left)) (dotsAt b z others) (λ l. up (omega arith)) (w .later) in
                 rw (list-step dotAt (λ s p. p + 12) a (p + 8 + 12 * k) (n - k) (n - (k + 1)) (omega arith), ← ea, ← ec, x, f, ← (w .counted))
 
-            pub dot-here : r ≡ true → atActors i p our n j their k y left ≡ DoubleSpent (record { dot = dot actor counter; our = record { 0 = our }; their = record { 0 = their } })
+            pub dot-here : got ≡ counter → atActors i p our n j their k y left ≡ DoubleSpent (record { dot = dot actor counter; our = record { 0 = our }; their = record { 0 = their } })
             unfolding atActors spotted
-            dot-here t = rw (turn, ← er, t)
+            dot-here t = rw (turn, ne-eqb our their ne, eq-eqb got counter t)
 
-            pub dot-next : r ≡ false → atActors i p our n j their k y left ≡ atActors i p our n j their (k + 1) z others
+            pub dot-next : (got ≡ counter → ⊥) → atActors i p our n j their k y left ≡ atActors i p our n j their (k + 1) z others
             unfolding atActors spotted
-            dot-next t = rw (turn, ← er, t)
+            dot-next t = rw (turn, ne-eqb our their ne, ne-eqb got counter t)
 
 -- the clock of an entry at a place
-pub clock-at : (s places : List ℕ) (n i p : ℕ) → Stand s places n → i < n → p ≡ getD places i 0 → Stands s (p + 4)
+pub clock-at : (s places : List ℕ) (n i p : ℕ) → Listed s places n → i < n → p ≡ getD places i 0 → Stands s (p + 4)
 clock-at s places n i p h l e = rw e (h .clock i l)
 
 pub dots-inside : (s : List ℕ) (p m : ℕ) → Stands s (p + 4) → m ≡ u32At s (p + 4) → p + 8 + 12 * m ≤ length s

@@ -1,16 +1,18 @@
 // Whether two replicas may be merged (`validate_merge` of src/orswot.rs): a dot that both hold, each for another member, is reported.
 ghost use mathlib.Core.Path.{_≡_};
-ghost use mathlib.Core.Bool.{not, _&&_};
+ghost use mathlib.Core.Bool.{true, not, _&&_};
 ghost use mathlib.Core.List.{map};
 ghost use Prim.Native.Nat.{_+_, _-_, _*_, _<_, _≤_};
 ghost use lib.Dec.{eqb};
 ghost use lib.ListN.{length, take};
+ghost use lib.Seq.{sets};
+ghost use Rattle.dots.specs.Rising.{rising};
 ghost use Rattle.replica.specs.Validate.{first};
 ghost use Rattle.layout.specs.Fields.{u32At, u64At};
-ghost use Rattle.layout.specs.Clock.{dotsAt};
+ghost use Rattle.layout.specs.Clock.{dotsAt, clockAt};
 ghost use Rattle.layout.specs.Rows.{rowAt};
 ghost use Rattle.validating.specs.Calls.{validationSays, validateMergeCall};
-ghost use Rattle.validating.specs.Search.{spotted, sightsOf, verdict, Stand, Walked};
+ghost use Rattle.validating.specs.Search.{spotted, sightsOf, verdict, keyOf, keysOf, Listed, Keyed, Apart, Walked};
 use dots::Actor;
 use dots::Dot;
 use dots::Member;
@@ -44,7 +46,7 @@ pub fn validate_merge(a: &[u8], b: &[u8]) -> Validation
         if y.good {
             let ours = x.places;
             let theirs = y.places;
-            first_spent(a, ours, x.entries, b, theirs, y.entries)
+            first_spent(a, &ours, x.entries, b, &theirs, y.entries)
         } else {
             Validation::BadSecond
         }
@@ -57,16 +59,6 @@ fn wide(x: u32) -> usize
     ensures { λ r. ⌜ (r ≡ x) × (r < 4294967296) ⌝ }
 {
     x as usize
-}
-
-// Whether to report a dot of `our` with a counter, where `their` counts its actor up to `count`.
-fn reportable(our: u32, their: u32, counter: u64, count: u64) -> bool
-    ensures { λ r. ⌜ r ≡ (not (eqb our their) && eqb count counter) ⌝ }
-{
-    if our == their {
-        return false;
-    }
-    count == counter
 }
 
 // The 32-bit number at a place that lies inside: of a part of known length, nothing is tested when the code runs.
@@ -125,26 +117,99 @@ fn walk_past(s: &[u8], p: usize, left: usize, a: u32) -> Ahead
     }
 }
 
-// The first double-spent dot of the entries at places of a and of b, or `Valid`. A place in their clock moves along with our actors.
+// The key of a counter: its lowest 16 bits, and `missing` for an actor that isn't there. Equal dots have equal keys; `missing` is another
+// number for ours than for theirs, so that an actor which neither has seldom makes a pair look alike.
+fn key(count: u64, missing: u16) -> u16
+    ensures { λ r. ⌜ r ≡ keyOf missing count ⌝ }
+{
+    if count == 0 {
+        return missing;
+    }
+    (count % 65536) as u16
+}
+
+// Puts the keys of the entry at p, one for each of the n actors of the clock of the image v, from a place on.
+fn put_keys(s: &[u8], p: usize, v: &[u8], n: usize, missing: u16, out: &mut [u16], at: usize)
+    requires { ⌜ (p + 8 + 12 * u32At (now s) (p + 4) ≤ length (now s)) × (28 + 12 * n ≤ length (now v)) × (rising 0 (dotsAt (now v) 28 n) ≡ true) × (at + n ≤ length (now out)) ⌝ }
+    ensures { λ _. ⌜ now (out .exit) ≡ sets (now (out .entry)) at (keysOf missing (dotsAt (now (v .entry)) 28 n) (clockAt (now (s .entry)) (p + 4))) ⌝ }
+{
+    let mut place = p + 8;
+    let mut left = wide(u32_at(s, p + 4));
+    let mut k: usize = 0;
+    while k < n {
+        let r = walk_past(s, place, left, u32_in(v, 28 + 12 * k));
+        place = r.place;
+        left = r.left;
+        out[at + k] = key(r.count, missing);
+        k += 1;
+    }
+}
+
+// Puts the keys of each of the n entries at places into its line, 16 numbers, along the m actors of the clock of v.
+fn put_lines(s: &[u8], places: &[u32; 64], n: usize, v: &[u8], m: usize, out: &mut [u16; 1024])
+    requires { ⌜ (length (now places) ≡ 64) × (length (now out) ≡ 1024) × Listed (now s) (now places) n × (m ≤ 16) × (28 + 12 * m ≤ length (now v)) × (rising 0 (dotsAt (now v) 28 m) ≡ true) ⌝ }
+    ensures { λ _. ⌜ Keyed (dotsAt (now (v .entry)) 28 m) (now (s .entry)) (now (places .entry)) (now (out .exit)) n m ⌝ }
+{
+    let mut j: usize = 0;
+    while j < n {
+        put_keys(s, wide(places[j]), v, m, 0, out, 16 * j);
+        j += 1;
+    }
+}
+
+// Whether two keys differ, and those before did.
+fn still_apart(before: bool, x: u16, y: u16) -> bool
+    ensures { λ r. ⌜ r ≡ (not (eqb x y) && before) ⌝ }
+{
+    if x == y { false } else { before }
+}
+
+// Whether our keys and those of line j differ everywhere: such entries hold no dot in common. All 16 are looked at, without a branch.
+fn apart(ours: &[u16; 16], theirs: &[u16; 1024], j: usize) -> bool
+    requires { ⌜ (j < 64) × (length (now ours) ≡ 16) × (length (now theirs) ≡ 1024) ⌝ }
+    ensures { λ r. ⌜ (r ≡ true → Apart (now (ours .entry)) (now (theirs .entry)) j 16) ⌝ }
+{
+    let mut differ = true;
+    let mut k: usize = 0;
+    while k < 16 {
+        differ = still_apart(differ, ours[k], theirs[16 * j + k]);
+        k += 1;
+    }
+    differ
+}
+
+// The first double-spent dot of the entries at places of a and of b, or `Valid`. Only where a key is shared are the dots looked at:
+// a place in their clock moves along with our actors.
 fn first_spent(
     a: &[u8],
-    ours: [u32; 64],
+    ours: &[u32; 64],
     na: usize,
     b: &[u8],
-    theirs: [u32; 64],
+    theirs: &[u32; 64],
     nb: usize,
 ) -> Validation
-    requires { ⌜ (na ≤ 64) × (nb ≤ 64) × Stand (now a) ours na × Stand (now b) theirs nb ⌝ }
-    ensures { λ r. ⌜ r ≡ verdict (first spotted (sightsOf (map (rowAt (now (a .entry))) (take na ours)) (map (rowAt (now (b .entry))) (take nb theirs)))) ⌝ }
+    requires { ⌜ (length (now ours) ≡ 64) × (length (now theirs) ≡ 64) × Listed (now a) (now ours) na × Listed (now b) (now theirs) nb ⌝ }
+    ensures { λ r. ⌜ r ≡ verdict (first spotted (sightsOf (map (rowAt (now (a .entry))) (take na (now (ours .entry)))) (map (rowAt (now (b .entry))) (take nb (now (theirs .entry)))))) ⌝ }
 {
+    let m = wide(u32_at(a, 24));
+    let mut lines = [0u16; 1024];
+    put_lines(b, theirs, nb, a, m, &mut lines);
     let mut found = Validation::Valid;
     'search: for i in 0..na {
         let p = wide(ours[i]);
         let our = u32_at(a, p);
         let n = wide(u32_at(a, p + 4));
+        let mut keys = [65535u16; 16];
+        put_keys(a, p, a, m, 65535, &mut keys, 0);
         'theirs: for j in 0..nb {
+            if apart(&keys, &lines, j) {
+                continue 'theirs;
+            }
             let q = wide(theirs[j]);
             let their = u32_at(b, q);
+            if our == their {
+                continue 'theirs;
+            }
             let mut y = q + 8;
             let mut left = wide(u32_at(b, q + 4));
             'actors: for k in 0..n {
@@ -154,7 +219,7 @@ fn first_spent(
                 let r = walk_past(b, y, left, actor);
                 y = r.place;
                 left = r.left;
-                if reportable(our, their, counter, r.count) {
+                if r.count == counter {
                     found = Validation::DoubleSpent(Spent {
                         dot: Dot {
                             actor: Actor(actor),

@@ -4,100 +4,151 @@ use mathlib.Core.List.{map}
 use native.Mathlib.Omega.{arith}
 use lib.ListN.{length, take}
 use Rattle.replica.specs.Validate.{first}
-use Rattle.layout.specs.Fields.{u32At}
 use Rattle.layout.specs.Rows.{rowAt}
-use Rattle.layout.specs.Kit.{Stands}
 use Rattle.validating.specs.declared.Validation.the-variants.{Valid}
 use Rattle.validating.specs.Search.{spotted, sightsOf, verdict}
-use Rattle.validating.proofs.Steps.{atOurs, atTheirs, atActors, our-row, our-end, their-row, their-end, dot-end, dot-here, dot-next, next-above, clock-at, dots-inside}
+use Rattle.validating.proofs.Steps.{atOurs, atTheirs, atActors, our-row, our-end, their-row, their-past, their-end, same-row, dot-end, dot-here, dot-next, next-above, clock-at, dots-inside}
+use Rattle.validating.proofs.Keys.{Ready, OurRow, row-apart, clock-stands, clock-rises}
 use borrow.Author.Needs.{needs}
 use Rattle.validating.proofs.first_spent.Statement.{statement}
 use Rattle.validating.proofs.first_spent.Tie as tie
 
 abbrev Inv-actors : tie.InvT-actors
-Inv-actors a na b nb ours theirs found₀ i p our n j q their y₀ left₀ k₀ found y left k =
+Inv-actors a ours na b theirs nb m lines found₀ i p our n keys j q their y₀ left₀ k₀ found y left k =
     (k ≤ n) × (y + 12 * left ≤ length b) × (found ≡ Valid)
     × (atActors a ours na b theirs nb i p our n j their k y left ≡ verdict (first spotted (sightsOf (map (rowAt a) (take na ours)) (map (rowAt b) (take nb theirs)))))
 
 abbrev μ-actors : tie.MeasureT-actors
-μ-actors a na b nb ours theirs found₀ i p our n j q their y₀ left₀ k₀ found y left k = n - k
+μ-actors a ours na b theirs nb m lines found₀ i p our n keys j q their y₀ left₀ k₀ found y left k = n - k
 
 abbrev Inv-theirs : tie.InvT-theirs
-Inv-theirs a na b nb ours theirs found₀ i p our n j₀ found j =
-    (j ≤ nb) × (found ≡ Valid) × (our ≡ u32At a p) × (n ≡ u32At a (p + 4)) × (p + 8 + 12 * n ≤ length a) × Stands a (p + 4)
+Inv-theirs a ours na b theirs nb m lines found₀ i p our n keys j₀ found j =
+    (j ≤ nb) × (found ≡ Valid) × (length keys ≡ 16) × OurRow a ours keys i p our n m
     × (atTheirs a ours na b theirs nb i p j ≡ verdict (first spotted (sightsOf (map (rowAt a) (take na ours)) (map (rowAt b) (take nb theirs)))))
 
 abbrev μ-theirs : tie.MeasureT-theirs
-μ-theirs a na b nb ours theirs found₀ i p our n j₀ found j = nb - j
+μ-theirs a ours na b theirs nb m lines found₀ i p our n keys j₀ found j = nb - j
 
 abbrev Inv-search : tie.InvT-search
-Inv-search a na b nb ours theirs found₀ i₀ found i =
-    (i ≤ na) × (found ≡ Valid) × (atOurs a ours na b theirs nb i ≡ verdict (first spotted (sightsOf (map (rowAt a) (take na ours)) (map (rowAt b) (take nb theirs)))))
+Inv-search a ours na b theirs nb m lines found₀ i₀ found i =
+    (i ≤ na) × (found ≡ Valid) × Ready a ours b theirs lines na nb m
+    × (atOurs a ours na b theirs nb i ≡ verdict (first spotted (sightsOf (map (rowAt a) (take na ours)) (map (rowAt b) (take nb theirs)))))
 
 abbrev μ-search : tie.MeasureT-search
-μ-search a na b nb ours theirs found₀ i₀ found i = na - i
+μ-search a ours na b theirs nb m lines found₀ i₀ found i = na - i
+
+put-lines-requires : tie.Need-put-lines-requires Inv-actors μ-actors Inv-theirs μ-theirs Inv-search μ-search
+put-lines-requires c κs =
+    let z = c .before .before .before .before .before .pre in
+    let s = clock-stands _ _ _ (z .2) in
+    let e = c .before .wide .ensures .0 ∙ c .before .before .u32-at .ensures in
+    (z .1, search needs, z .3, omega (arith, s .count, e), omega (arith, s .room, e), clock-rises _ _ s e)
 
 search-holds : tie.Need-search-holds Inv-actors μ-actors Inv-theirs μ-theirs Inv-search μ-search
 unfolding atOurs
-search-holds c = (search needs, refl, refl)
+search-holds c =
+    let z = c .before .before .before .before .before .before .pre in
+    let s = clock-stands _ _ _ (z .2) in
+    let e = c .before .before .wide .ensures .0 ∙ c .before .before .before .u32-at .ensures in
+    (search needs, refl, record { ours-ok = z .2; theirs-ok = z .3; ours-long = omega (arith, z .0, z .2 .few); theirs-long = omega (arith, z .1, z .3 .few); actors-are = e; actors-few = omega (arith, s .count, e); lines-are = c .put-lines .ensures }, refl)
+
+put-keys-requires : tie.Need-put-keys-requires Inv-actors μ-actors Inv-theirs μ-theirs Inv-search μ-search
+put-keys-requires c κs =
+    let v = c .before .before .before .before .before .before .before .search .inv in
+    let s = clock-stands _ _ _ (v .2 .ours-ok) in
+    let e = v .2 .actors-are in
+    (dots-inside _ _ _ (clock-at _ _ _ _ _ (v .2 .ours-ok) (omega arith) (c .before .before .before .before .wide2 .ensures .0)) refl, omega (arith, s .room, e), clock-rises _ _ s e, omega (arith, v .2 .actors-few))
 
 theirs-holds : tie.Need-theirs-holds Inv-actors μ-actors Inv-theirs μ-theirs Inv-search μ-search
 theirs-holds c =
-    let v = c .before .before .before .before .before .search .inv in
-    let e = c .before .before .before .wide .ensures .0 in
-    let f = c .wide2 .ensures .0 ∙ c .before .u32-at2 .ensures in
-    let s = clock-at _ _ _ _ _ (c .before .before .before .before .before .before .before .before .pre .2) (omega arith) e in
-    (search needs, v .1, c .before .before .u32-at .ensures, f, dots-inside _ _ _ s f, s, sym (our-row _ _ _ _ _ _ _ _ (omega arith) (omega arith) e) ∙ v .2)
+    let v = c .before .before .before .before .before .before .before .before .before .search .inv in
+    let e = c .before .before .before .before .before .before .wide2 .ensures .0 in
+    let f = c .before .before .before .wide3 .ensures .0 ∙ c .before .before .before .before .u32-at3 .ensures in (
+      search needs,
+      v .1,
+      search needs,
+      record { place-is = e; member-is = c .before .before .before .before .before .u32-at2 .ensures; count-is = f; stands-ok = clock-at _ _ _ _ _ (v .2 .ours-ok) (omega arith) e; keys-ok = c .before .put-keys .ensures },
+      sym (our-row _ _ _ _ _ _ _ _ (omega arith) (v .2 .ours-long) e) ∙ v .3,
+    )
+
+apart-requires : tie.Need-apart-requires Inv-actors μ-actors Inv-theirs μ-theirs Inv-search μ-search
+apart-requires c κs = (omega (arith, c .before .before .before .before .before .before .before .before .before .before .before .before .before .search .inv .2 .theirs-ok .few), c .before .before .before .theirs .inv .2, c .before .before .before .before .before .before .before .before .before .before .before .before .before .search .inv .2 .lines-are .long)
+
+theirs-again : tie.Need-theirs-again Inv-actors μ-actors Inv-theirs μ-theirs Inv-search μ-search
+theirs-again c =
+    let v = c .before .before .before .before .before .theirs .inv in
+    (search needs, v .1, v .2, v .3, sym (their-past _ _ _ _ _ _ _ _ _ _ (omega arith) (c .before .before .before .before .before .before .before .before .before .before .before .before .before .before .before .search .inv .2 .theirs-long) refl (row-apart _ _ _ _ _ _ _ _ _ _ _ _ _ _ _ (c .before .before .before .before .before .before .before .before .before .before .before .before .before .before .before .search .inv .2) (v .3) (omega arith) (omega arith) refl (c .before .apart .ensures (c .if1 .taken)))) ∙ v .4)
+
+theirs-again-2 : tie.Need-theirs-again-2 Inv-actors μ-actors Inv-theirs μ-theirs Inv-search μ-search
+theirs-again-2 c =
+    let v = c .before .before .before .before .before .before .before .before .before .theirs .inv in
+    (search needs, v .1, v .2, v .3, sym (their-past _ _ _ _ _ _ _ _ _ _ (omega arith) (c .before .before .before .before .before .before .before .before .before .before .before .before .before .before .before .before .before .before .before .search .inv .2 .theirs-long) (c .before .before .wide4 .ensures .0) (same-row _ _ _ _ _ _ (v .3 .member-is) (c .before .u32-at4 .ensures) (c .if2 .taken))) ∙ v .4)
 
 actors-holds : tie.Need-actors-holds Inv-actors μ-actors Inv-theirs μ-theirs Inv-search μ-search
 actors-holds c =
-    let v = c .before .before .before .before .before .theirs .inv in
-    let e = c .before .before .before .wide3 .ensures .0 in
-    let f = c .wide4 .ensures .0 ∙ c .before .u32-at4 .ensures in
-    let s = clock-at _ _ _ _ _ (c .before .before .before .before .before .before .before .before .before .before .before .before .before .before .pre .3) (omega arith) e in (
+    let v = c .before .before .before .before .before .before .before .before .before .before .before .theirs .inv in
+    let e = c .before .before .before .before .wide4 .ensures .0 in
+    let f = c .wide5 .ensures .0 ∙ c .before .u32-at5 .ensures in
+    let s = clock-at _ _ _ _ _ (c .before .before .before .before .before .before .before .before .before .before .before .before .before .before .before .before .before .before .before .before .before .search .inv .2 .theirs-ok) (omega arith) e in (
       search needs,
       dots-inside _ _ _ s f,
       v .1,
-      sym (their-row _ _ _ _ _ _ _ _ _ _ _ _ _ _ _ (omega arith) (omega arith) e (v .2) (v .3) (c .before .before .u32-at3 .ensures) refl f) ∙ v .6,
+      sym (their-row _ _ _ _ _ _ _ _ _ _ _ _ _ _ _ (omega arith) (c .before .before .before .before .before .before .before .before .before .before .before .before .before .before .before .before .before .before .before .before .before .search .inv .2 .theirs-long) e (v .3 .member-is) (v .3 .count-is) (c .before .before .before .u32-at4 .ensures) refl f) ∙ v .4,
     )
+
+u32-in-requires : tie.Need-u32-in-requires Inv-actors μ-actors Inv-theirs μ-theirs Inv-search μ-search
+u32-in-requires c κs = omega (arith, dots-inside _ _ _ (c .before .before .before .before .before .before .before .before .before .before .before .before .before .theirs .inv .3 .stands-ok) (c .before .before .before .before .before .before .before .before .before .before .before .before .before .theirs .inv .3 .count-is))
+
+u64-in-requires : tie.Need-u64-in-requires Inv-actors μ-actors Inv-theirs μ-theirs Inv-search μ-search
+u64-in-requires c κs = omega (arith, dots-inside _ _ _ (c .before .before .before .before .before .before .before .before .before .before .before .before .before .before .theirs .inv .3 .stands-ok) (c .before .before .before .before .before .before .before .before .before .before .before .before .before .before .theirs .inv .3 .count-is))
 
 actors-again : tie.Need-actors-again Inv-actors μ-actors Inv-theirs μ-theirs Inv-search μ-search
 actors-again c =
-    let t = c .before .before .before .before .before .before .before .before .before .before .before .before .theirs .inv in
+    let o = c .before .before .before .before .before .before .before .before .before .before .before .before .before .before .before .before .before .before .theirs .inv .3 in
     let v = c .before .before .before .before .before .before .actors .inv in
     let e = c .before .before .before .before .u32-in .ensures in
     let w = c .before .before .walk-past .ensures in (
       search needs,
       omega (arith, v .1, w .1),
       v .2,
-      sym (dot-next _ _ _ _ _ _ _ _ _ _ _ _ _ _ _ _ _ _ _ _ _ (omega arith) e (c .before .before .before .u64-in .ensures) (next-above _ _ _ _ _ (t .5) (t .3) e) (w .0) (c .before .reportable .ensures) (c .if1 .left)) ∙ v .3,
+      sym (dot-next _ _ _ _ _ _ _ _ _ _ _ _ _ _ _ _ _ _ _ _ (omega arith) e (c .before .before .before .u64-in .ensures) (next-above _ _ _ _ _ (o .stands-ok) (o .count-is) e) (w .0) (c .before .before .before .before .before .before .before .before .before .if2 .left) (c .if3 .left)) ∙ v .3,
     )
 
-theirs-again : tie.Need-theirs-again Inv-actors μ-actors Inv-theirs μ-theirs Inv-search μ-search
-theirs-again c =
-    let v = c .before .before .before .before .before .before .before .theirs .inv in
-    (search needs, c .before .actors .inv .2, v .2, v .3, v .4, v .5, sym (dot-end _ _ _ _ _ _ _ _ _ _ _ _ _ _ _ (omega arith)) ∙ c .before .actors .inv .3)
+add-j-3 : tie.Need-add-j-3 Inv-actors μ-actors Inv-theirs μ-theirs Inv-search μ-search
+add-j-3 c = let t = c .before .before .before .before .before .before .before .before .before .before .before .before .theirs-test .taken in let f = c .before .before .before .before .before .before .before .before .before .before .before .before .before .before .before .before .before .before .before .before .before .before .before .search .inv .2 .theirs-ok .few in search needs
+
+theirs-less-3 : tie.Need-theirs-less-3 Inv-actors μ-actors Inv-theirs μ-theirs Inv-search μ-search
+theirs-less-3 c = let t = c .before .before .before .before .before .before .before .before .before .before .before .before .theirs-test .taken in search needs
+
+theirs-again-3 : tie.Need-theirs-again-3 Inv-actors μ-actors Inv-theirs μ-theirs Inv-search μ-search
+theirs-again-3 c =
+    let v = c .before .before .before .before .before .before .before .before .before .before .before .before .before .theirs .inv in
+    (search needs, c .before .actors .inv .2, v .2, v .3, sym (dot-end _ _ _ _ _ _ _ _ _ _ _ _ _ _ _ (omega arith)) ∙ c .before .actors .inv .3)
 
 search-again : tie.Need-search-again Inv-actors μ-actors Inv-theirs μ-theirs Inv-search μ-search
-search-again c = let v = c .before .theirs .inv in (search needs, v .1, sym (their-end _ _ _ _ _ _ _ _ _ (omega arith)) ∙ v .6)
+search-again c = let v = c .before .theirs .inv in (search needs, v .1, c .before .before .before .before .before .before .before .before .before .before .before .search .inv .2, sym (their-end _ _ _ _ _ _ _ _ _ (omega arith)) ∙ v .4)
 
 returns : tie.Need-returns Inv-actors μ-actors Inv-theirs μ-theirs Inv-search μ-search
-returns c = let v = c .before .search .inv in v .1 ∙ sym (our-end _ _ _ _ _ _ _ (omega arith)) ∙ v .2
+returns c = let v = c .before .search .inv in v .1 ∙ sym (our-end _ _ _ _ _ _ _ (omega arith)) ∙ v .3
 
 returns-2 : tie.Need-returns-2 Inv-actors μ-actors Inv-theirs μ-theirs Inv-search μ-search
 returns-2 c =
-    let t = c .before .before .before .before .before .before .before .before .before .before .before .before .theirs .inv in
+    let o = c .before .before .before .before .before .before .before .before .before .before .before .before .before .before .before .before .before .before .theirs .inv .3 in
     let e = c .before .before .before .before .u32-in .ensures in
-    sym (dot-here _ _ _ _ _ _ _ _ _ _ _ _ _ _ _ _ _ _ _ _ _ (omega arith) e (c .before .before .before .u64-in .ensures) (next-above _ _ _ _ _ (t .5) (t .3) e) (c .before .before .walk-past .ensures .0) (c .before .reportable .ensures) (c .if1 .taken)) ∙ c .before .before .before .before .before .before .actors .inv .3
+    sym (dot-here _ _ _ _ _ _ _ _ _ _ _ _ _ _ _ _ _ _ _ _ (omega arith) e (c .before .before .before .u64-in .ensures) (next-above _ _ _ _ _ (o .stands-ok) (o .count-is) e) (c .before .before .walk-past .ensures .0) (c .before .before .before .before .before .before .before .before .before .if2 .left) (c .if3 .taken)) ∙ c .before .before .before .before .before .before .actors .inv .3
 
 pub first-spent-spec : {M : Type 1} → statement M
 first-spent-spec =
     tie.close
-    (tie.spec Inv-actors μ-actors Inv-theirs μ-theirs Inv-search μ-search search-holds (λ c. search needs)
-    (λ c. search needs) (λ c κs. search needs) (λ c κs. search needs) (λ c. search needs) (λ c κs. search needs)
-    (λ c κs. search needs) theirs-holds (λ c. search needs) (λ c. search needs) (λ c κs. search needs)
-    (λ c κs. search needs) (λ c. search needs) (λ c. search needs) (λ c κs. search needs) (λ c κs. search needs)
-    actors-holds (λ c. search needs) (λ c. search needs) (λ c. search needs) (λ c κs. search needs) (λ c. search needs)
-    (λ c κs. search needs) (λ c κs. search needs) (λ c κs. search needs) (λ c. search needs) (λ c. search needs)
-    actors-again (λ c. search needs) (λ c. search needs) theirs-again (λ c. search needs) (λ c. search needs)
-    search-again returns returns-2)
+    (tie.spec Inv-actors μ-actors Inv-theirs μ-theirs Inv-search μ-search
+    (λ c κs. search needs) (λ c κs. search needs) put-lines-requires search-holds
+    (λ c. search needs) (λ c. search needs) (λ c κs. search needs) (λ c κs. search needs) (λ c. search needs) (λ c κs. search needs) (λ c κs. search needs)
+    (λ c. search needs) put-keys-requires theirs-holds apart-requires
+    (λ c. search needs) (λ c. search needs) theirs-again
+    (λ c. search needs) (λ c. search needs) (λ c κs. search needs) (λ c κs. search needs)
+    (λ c. search needs) (λ c. search needs) theirs-again-2
+    (λ c. search needs) (λ c. search needs) (λ c κs. search needs) (λ c κs. search needs) actors-holds
+    (λ c. search needs) (λ c. search needs) (λ c. search needs) u32-in-requires (λ c. search needs) u64-in-requires (λ c κs. search needs)
+    (λ c. search needs) (λ c. search needs) actors-again
+    add-j-3 theirs-less-3 theirs-again-3
+    (λ c. search needs) (λ c. search needs) search-again returns returns-2)
