@@ -7,8 +7,8 @@ use native.Mathlib.Omega.{arith}
 use native.Mathlib.Nat.{add-zero, zero-add}
 use lib.Dec.{leb, ltb, eqb, T, ltb→lt}
 use lib.ListN.{length, take, getD, replicate, length-map, length-replicate, getD-replicate, List·getD-map}
-use lib.Seq.{sets}
-use borrow.Author.Tests.{lt-leb, eq-eqb, ne-eqb}
+use lib.Seq.{sets, getD-take}
+use borrow.Author.Tests.{lt-leb, lt-ltb, ltb-true, eq-eqb, ne-eqb}
 use Rattle.tables.specs.Order.{nat-order, nat-lt, gt-lt}
 use Rattle.tables.specs.Table.{pick, every, All, Asc, Below, Normal, below-trans}
 use Rattle.tables.specs.Zip.{get-none}
@@ -16,7 +16,7 @@ use Rattle.dots.specs.declared.Dot.{Dot}
 use Rattle.dots.specs.Dot.{clocks, actorOf, noDot}
 use Rattle.dots.specs.Clock.{Clock, count, covers}
 use Rattle.dots.specs.Covering.{count-same, count-other}
-use Rattle.dots.specs.Rising.{true-from}
+use Rattle.dots.specs.Rising.{true-from, both-left, both-right}
 use Rattle.dots.specs.ClockLaws.{dot-proper}
 use Rattle.clocks.specs.declared.VClock.{VClock}
 use Rattle.clocks.specs.VClock.{dotsOf, vclock, dots-vclock}
@@ -32,10 +32,10 @@ use Rattle.layout.specs.Good.{goodClock, goodMembers, goodRows, goodWaits, good
 use Rattle.layout.specs.Kit.{stands, named, clock-normal, place-row, place-good, first-wait, length-startsAt, length-clockAt, each-from}
 use Rattle.layout.specs.Form.{length-listAt}
 use Rattle.layout.specs.Checks.{rows-rise, members-rise, passed}
-use Rattle.kills.specs.Lines.{killTable, membersOf, waitRead, waitsOf}
-use Rattle.kills.specs.Laws.{Ordered, kill-numbers}
+use Rattle.kills.specs.Lines.{topLine, killTable, membersOf, waitRead, waitsOf}
+use Rattle.kills.specs.Laws.{Ordered, top-above, kill-numbers}
 use Rattle.kills.proofs.Steps.{taken}
-use Rattle.image.specs.Fits.{fits, fitAll}
+use Rattle.image.specs.Fits.{within, fits, fitAll, EachStands}
 use Rattle.layout.specs.Main.{checked}
 use Rattle.image.specs.declared.Image.{Image}
 use Rattle.image.specs.Image.{imageOfBytes, checkImage, partsImage, noImage}
@@ -109,12 +109,46 @@ positive (d ∷ ds) n = (ltb→lt 0 (d .counter) (dot-proper d (n .proper .0)), 
 
 all-index : (t s : List ℕ) (v : Clock) (R : Replica) (d₀ : Entry) (i p n : ℕ)
     → ((m : ℕ) → m < n → fits t (16 * (i + m)) v (clockAt s (getD (placesAt s p n) m 0 + 4)) ≡ goodEntry R (getD (rowsAt s p n) m d₀))
-    → fitAll t s v i (placesAt s p n) ≡ every (goodEntry R) (rowsAt s p n)
+    → fitAll t s v true i (placesAt s p n) ≡ every (goodEntry R) (rowsAt s p n)
 unfolding fitAll startsAt listAt
 all-index t s v R d₀ i p zero h = refl
 all-index t s v R d₀ i p (suc n) h =
     ap₂ _&&_ (rw add-zero at (h 0 (omega arith)))
     (all-index t s v R d₀ (suc i) (rowEnd s p) n (λ m l. let e : suc i + m ≡ i + suc m = omega arith in rw e (h (suc m) (omega arith))))
+
+-- ---- a lower line
+
+fits-lower : (t u : List ℕ) (q r : ℕ) (v ds : Clock) → ((j : ℕ) → j < length v → getD u (r + j) 0 ≤ getD t (q + j) 0) → fits t q v ds ≡ true → fits u r v ds ≡ true
+unfolding fits
+fits-lower t u q r [] [] h g = g
+fits-lower t u q r [] (d ∷ ds) h g = g
+fits-lower t u q r (x ∷ v) [] h g = g
+fits-lower t u q r (x ∷ v) (d ∷ ds) h g =
+    go (eqb (actorOf d) (actorOf x)) (fits-lower t u (suc q) (suc r) v ds shift) (fits-lower t u (suc q) (suc r) v (d ∷ ds) shift) g
+  where
+    shift : (j : ℕ) → j < length v → getD u (suc r + j) 0 ≤ getD t (suc q + j) 0
+    shift j l = let e : suc r + j ≡ r + suc j = omega arith in let f : suc q + j ≡ q + suc j = omega arith in rw (e, f) (h (suc j) (omega arith))
+
+    go : (b : Bool) → (fits t (suc q) v ds ≡ true → fits u (suc r) v ds ≡ true) → (fits t (suc q) v (d ∷ ds) ≡ true → fits u (suc r) v (d ∷ ds) ≡ true)
+        → pick b (within (d .counter) x (getD t q 0) && fits t (suc q) v ds) (fits t (suc q) v (d ∷ ds)) ≡ true
+        → pick b (within (d .counter) x (getD u r 0) && fits u (suc r) v ds) (fits u (suc r) v (d ∷ ds)) ≡ true
+    go true i r′ e =
+        let covered = leb (d .counter) (x .counter) in
+        let over = ltb (getD t q 0) (d .counter) in
+        let w = both-left (covered && over) (fits t (suc q) v ds) e in
+        let k = ltb-true (getD t q 0) (d .counter) (both-right covered over w) in
+        let l = rw (add-zero r, add-zero q) at (h 0 (omega arith)) in
+        rw (both-left covered over w, lt-ltb (getD u r 0) (d .counter) (omega arith)) (i (both-right (covered && over) (fits t (suc q) v ds) e))
+    go false i r′ e = r′ e
+
+all-lower : (t u s : List ℕ) (v : Clock) (i : ℕ) (ps : List ℕ) → ((m j : ℕ) → m < length ps → j < length v → getD u (16 * (i + m) + j) 0 ≤ getD t j 0) → fitAll t s v false i ps ≡ true → fitAll u s v true i ps ≡ true
+unfolding fitAll
+all-lower t u s v i [] h g = g
+all-lower t u s v i (p ∷ ps) h g =
+    let first = fits t 0 v (clockAt s (p + 4)) in
+    let others = fitAll t s v false (suc i) ps in
+    rw (fits-lower t u 0 (16 * i) v (clockAt s (p + 4)) (λ j l. rw (zero-add j) (rw add-zero at (h 0 j (omega arith) l))) (both-left first others g))
+    (all-lower t u s v (suc i) ps (λ m j k l. let e : suc i + m ≡ i + suc m = omega arith in rw e (h (suc m) j (omega arith) l)) (both-right first others g))
 
 -- ---- what is read at the places is what stands there
 
@@ -180,6 +214,25 @@ module _ (s : List ℕ) (start n wstart k : ℕ) (few : n ≤ 64) (waits-few : k
   abbrev lines : List ℕ
   lines = killTable (clockAt s 24) (map (λ e. e .member) (rowsAt s start n)) (waitsAt s wstart k) (replicate 16 0) (replicate 1024 0)
 
+  length-members : length (map (λ e. e .member) (rowsAt s start n)) ≡ n
+  length-members = simp (length-map, length-listAt)
+
+  member-at : (m : ℕ) → m < n → getD (map (λ e. e .member) (rowsAt s start n)) m 0 ≡ u32At s (getD (placesAt s start n) m 0)
+  unfolding rowIn
+  member-at m h = List·getD-map (λ e. e .member) (rowsAt s start n) m (record { member = 0; clock = [] }) ∙ ap (λ (e : Entry). e .member) (place-row s start n m (record { member = 0; clock = [] }) h)
+
+  few-actors : length (clockAt s 24) ≤ 16
+  few-actors = let w = stands s 24 cg in let q = length-clockAt s 24 in omega (arith, w .count)
+
+  line-number : (m j : ℕ) → m < n → j < length (clockAt s 24) → getD lines (16 * m + j) 0 ≡ killsOf (waitsAt s wstart k) (getD (map (λ e. e .member) (rowsAt s start n)) m 0) (actorOf (getD (clockAt s 24) j noDot))
+  line-number m j h l =
+      let lm = length-members in
+      let lv = few-actors in
+      let r = kill-numbers (clockAt s 24) (map (λ e. e .member) (rowsAt s start n)) (clock-normal s 24 cg .asc) (rows-rise s start 0 n rg) lv (replicate 16 0) (replicate 1024 0) refl
+      (rw (length-replicate {A = ℕ} 1024 0) (omega arith)) (waitsAt s wstart k) (waits-ordered s wstart [] k wg) m j (omega arith) l in
+      let z = getD-replicate {A = ℕ} 16 j 0 0 (omega arith) in
+      omega arith
+
   one : (m : ℕ) → m < n → fits lines (16 * (0 + m)) (clockAt s 24) (clockAt s (getD (placesAt s start n) m 0 + 4)) ≡ goodEntry R (getD (rowsAt s start n) m (record { member = 0; clock = [] }))
   unfolding goodEntry rowIn
   one m h =
@@ -191,35 +244,46 @@ module _ (s : List ℕ) (start n wstart k : ℕ) (few : n ≤ 64) (waits-few : k
       let nc = clock-normal s (p + 4) (place-good s start 0 n m rg h) in
       let nv = clock-normal s 24 cg in
       let row : getD (rowsAt s start n) m (record { member = 0; clock = [] }) ≡ rowAt s p = place-row s start n m (record { member = 0; clock = [] }) h in
-      let lm : length ms ≡ n = length-members in
-      let mm : getD ms m 0 ≡ u32At s p = member-at m h in
-      let lv : length u ≤ 16 = let w = stands s 24 cg in let q = length-clockAt s 24 in omega (arith, w .count) in
       let z : 0 + m ≡ m = zero-add m in
       let kn : (j : ℕ) → j < length u → getD lines (16 * m + j) 0 ≡ killsOf ws (u32At s p) (actorOf (getD u j noDot)) =
-      λ j l. let r = kill-numbers u ms (nv .asc) (rows-rise s start 0 n rg) lv (replicate 16 0) (replicate 1024 0) refl (rw (length-replicate {A = ℕ} 1024 0) (omega arith)) ws (waits-ordered s wstart [] k wg) m j (omega arith) l in
-      let z = getD-replicate {A = ℕ} 16 j 0 0 (omega arith) in
-      let e : getD lines (16 * m + j) 0 ≡ killsOf ws (getD ms m 0) (actorOf (getD u j noDot)) = omega arith in
-      e ∙ ap (λ (x : ℕ). killsOf ws x (actorOf (getD u j noDot))) mm in
+      λ j l. line-number m j h l ∙ ap (λ (x : ℕ). killsOf ws x (actorOf (getD u j noDot))) (member-at m h) in
       rw (z, row) (fits-is lines (λ a. killsOf ws (u32At s p) a) (16 * m) u (clockAt s (p + 4)) (nv .asc) (nc .asc) (positive (clockAt s (p + 4)) nc) kn
       ∙ ap (λ (b : Bool). covers u (clockAt s (p + 4)) && b) (sym (spared-number ws (rowAt s p) (positive (clockAt s (p + 4)) nc))))
-    where
-      length-members : length (map (λ e. e .member) (rowsAt s start n)) ≡ n
-      length-members = simp (length-map, length-listAt)
 
-      member-at : (m : ℕ) → m < n → getD (map (λ e. e .member) (rowsAt s start n)) m 0 ≡ u32At s (getD (placesAt s start n) m 0)
-      member-at m h = List·getD-map (λ e. e .member) (rowsAt s start n) m (record { member = 0; clock = [] }) ∙ ap (λ (e : Entry). e .member) (place-row s start n m (record { member = 0; clock = [] }) h)
-
-  pub entries-are : fitAll lines s (clockAt s 24) 0 (placesAt s start n) ≡ every (goodEntry R) (rowsAt s start n)
+  pub entries-are : fitAll lines s (clockAt s 24) true 0 (placesAt s start n) ≡ every (goodEntry R) (rowsAt s start n)
   entries-are = all-index lines s (clockAt s 24) R (record { member = 0; clock = [] }) 0 start n one
+
+  -- entries above all waiting removes are good
+  above-all : fitAll (topLine (clockAt s 24) (waitsAt s wstart k)) s (clockAt s 24) false 0 (placesAt s start n) ≡ true → every (goodEntry R) (rowsAt s start n) ≡ true
+  above-all g =
+      let long = length-startsAt rowEnd s start n in
+      sym entries-are ∙ all-lower (topLine (clockAt s 24) (waitsAt s wstart k)) lines s (clockAt s 24) 0 (placesAt s start n)
+      (λ m j h l.
+      let e = zero-add m in
+      let ms = map (λ e. e .member) (rowsAt s start n) in
+      let a = line-number m j (omega arith) l in
+      let b = top-above (clockAt s 24) ms (clock-normal s 24 cg .asc) (rows-rise s start 0 n rg) few-actors (waitsAt s wstart k) (replicate 16 0) refl (waits-ordered s wstart [] k wg) (getD ms m 0) j l in
+      rw e (omega arith))
+      g
 
   -- as the check has it
   pub fit-told : (c : VClock) (places′ : List ℕ) (starts′ t : List ℕ) → c ≡ vclock (clockAt s 24) → places′ ≡ places → starts′ ≡ starts
       → t ≡ killTable (dotsOf c) (membersOf s places′ n) (waitsOf s starts′ k) (replicate 16 0) (replicate 1024 0)
-      → fitAll t s (dotsOf c) 0 (take n places′) ≡ every (goodEntry R) (rowsAt s start n)
+      → fitAll t s (dotsOf c) true 0 (take n places′) ≡ every (goodEntry R) (rowsAt s start n)
   fit-told c places′ starts′ t ec ep es et =
       let v : dotsOf c ≡ clockAt s 24 = ap (λ (x : VClock). dotsOf x) ec ∙ clock-is in
       let l : t ≡ lines = et ∙ (λ i. killTable (v i) ((ap (λ (x : List ℕ). membersOf s x n) ep ∙ ms-are) i) ((ap (λ (x : List ℕ). waitsOf s x k) es ∙ ws-are) i) (replicate 16 0) (replicate 1024 0)) in
-      (λ i. fitAll (l i) s (v i) 0 ((ap (take n) ep ∙ taken-places) i)) ∙ entries-are
+      (λ i. fitAll (l i) s (v i) true 0 ((ap (take n) ep ∙ taken-places) i)) ∙ entries-are
+
+  pub above-told : (c : VClock) (places′ : List ℕ) (starts′ t : List ℕ) → c ≡ vclock (clockAt s 24) → places′ ≡ places → starts′ ≡ starts → t ≡ topLine (dotsOf c) (waitsOf s starts′ k)
+      → fitAll t s (dotsOf c) false 0 (take n places′) ≡ true → every (goodEntry R) (rowsAt s start n) ≡ true
+  above-told c places′ starts′ t ec ep es et g =
+      let v : dotsOf c ≡ clockAt s 24 = ap (λ (x : VClock). dotsOf x) ec ∙ clock-is in
+      let l : t ≡ topLine (clockAt s 24) (waitsAt s wstart k) = et ∙ (λ i. topLine (v i) ((ap (λ (x : List ℕ). waitsOf s x k) es ∙ ws-are) i)) in
+      above-all (sym (λ i. fitAll (l i) s (v i) false 0 ((ap (take n) ep ∙ taken-places) i)) ∙ g)
+
+  pub each-stands : EachStands s places n
+  each-stands = record { each = λ i h. stands s (getD places i 0 + 4) (rw (← (getD-take n places i 0 h), taken-places) (place-good s start 0 n i rg h)) }
 
 -- ---- the whole check
 
@@ -253,7 +317,7 @@ module _ (s : List ℕ) where
   Lines x t = t ≡ killTable (dotsOf (x .clock)) (membersOf s (x .places) (x .entries)) (waitsOf s (x .starts) (x .waits)) (replicate 16 0) (replicate 1024 0)
 
   abbrev Fit : Image → List ℕ → Bool → Type 0
-  Fit x t b = b ≡ fitAll t s (dotsOf (x .clock)) 0 (take (x .entries) (x .places))
+  Fit x t b = b ≡ fitAll t s (dotsOf (x .clock)) true 0 (take (x .entries) (x .places))
 
   entries-told : goodParts s ≡ true → (t : List ℕ) (b : Bool) → Lines (imageOfBytes s) t → Fit (imageOfBytes s) t b → b ≡ every (goodEntry (imageOf s)) (imageOf s .entries)
   unfolding imageOfBytes imageIn
@@ -262,17 +326,45 @@ module _ (s : List ℕ) where
       f ∙ fit-told s (u32At s 8) (u32At s 12) (u32At s 16) (u32At s 20) (z .few-entries) (z .few-waits) (z .clock-ok) (z .rows-ok) (z .waits-ok)
       (vclock (clockAt s 24)) (sets (replicate 64 0) 0 (placesAt s (u32At s 8) (u32At s 12))) (sets (replicate 16 0) 0 (waitPlacesAt s (u32At s 16) (u32At s 20))) t refl refl refl l
 
+  abbrev Top : Image → List ℕ → Type 0
+  Top x t = t ≡ topLine (dotsOf (x .clock)) (waitsOf s (x .starts) (x .waits))
+
+  abbrev Above : Image → List ℕ → Bool → Type 0
+  Above x t b = b ≡ fitAll t s (dotsOf (x .clock)) false 0 (take (x .entries) (x .places))
+
+  entries-above : goodParts s ≡ true → (t : List ℕ) (b : Bool) → Top (imageOfBytes s) t → Above (imageOfBytes s) t b → b ≡ true → every (goodEntry (imageOf s)) (imageOf s .entries) ≡ true
+  unfolding imageOfBytes imageIn
+  entries-above g t b l f y =
+      let z = sized s g in
+      above-told s (u32At s 8) (u32At s 12) (u32At s 16) (u32At s 20) (z .few-entries) (z .few-waits) (z .clock-ok) (z .rows-ok) (z .waits-ok)
+      (vclock (clockAt s 24)) (sets (replicate 64 0) 0 (placesAt s (u32At s 8) (u32At s 12))) (sets (replicate 16 0) 0 (waitPlacesAt s (u32At s 16) (u32At s 20))) t refl refl refl l (sym f ∙ y)
+
   -- what the code may ask of the parts
-  pub few-told : (x : Image) → x ≡ partsImage s → x .good ≡ true → (x .entries ≤ 64) × (x .clock .len ≤ 16)
+  pub record Asked (x : Image) : Type 0 where
+    pub entries-few : x .entries ≤ 64
+    pub clock-few : x .clock .len ≤ 16
+    pub stand : EachStands s (x .places) (x .entries)
+
+  pub asked : (x : Image) → x ≡ partsImage s → x .good ≡ true → Asked x
   unfolding imageOfBytes imageIn vclock
-  few-told x e g =
+  asked x e g =
       let r = told x e g in
       let z = sized s (r .0) in
       let w = stands s 24 (z .clock-ok) in
       let q = length-clockAt s 24 in
       let n : x .entries ≡ u32At s 12 = ap (λ (y : Image). y .entries) (r .1) in
       let l : x .clock .len ≡ length (clockAt s 24) = ap (λ (y : Image). y .clock .len) (r .1) in
-      (omega (arith, z .few-entries), omega (arith, w .count))
+      record {
+        entries-few = omega (arith, z .few-entries);
+        clock-few = omega (arith, w .count);
+        stand = subst (λ (y : Image). EachStands s (y .places) (y .entries)) (sym (r .1)) (each-stands s (u32At s 8) (u32At s 12) (u32At s 16) (u32At s 20) (z .few-entries) (z .few-waits) (z .clock-ok) (z .rows-ok) (z .waits-ok));
+      }
+
+  pub check-above : (x : Image) → x ≡ partsImage s → x .good ≡ true → (t : List ℕ) (b : Bool) → Top x t → Above x t b → b ≡ true → x ≡ checkImage s
+  unfolding checkImage checksIn
+  check-above x e g t b l f y =
+      let r = told x e g in
+      r .1 ∙ sym (rw (checked s, r .0, entries-above (r .0) t b (subst (λ (z : Image). Top z t) (r .1) l) (subst (λ (z : Image). Above z t b) (r .1) f) y))
 
   module _ (x : Image) (e : x ≡ partsImage s) (g : x .good ≡ true) (t : List ℕ) (b : Bool) (l : Lines x t) (f : Fit x t b) where
     fit : b ≡ every (goodEntry (imageOf s)) (imageOf s .entries)

@@ -20,7 +20,7 @@ use Rattle.layout.specs.Fields.{u16At, u32At, u64At}
 use Rattle.layout.specs.Clock.{dotIn, dotAt, dotsAt, clockAt}
 use Rattle.layout.specs.Good.{goodContentsIn, goodContents}
 use Rattle.fields.proofs.Steps.{list-step, list-end}
-use Rattle.image.specs.Fits.{within, stepOf, fits, fitAll}
+use Rattle.image.specs.Fits.{within, stepOf, fits, lineFor, fitAll}
 
 -- ---- the contents
 
@@ -139,17 +139,21 @@ module _ (t s : List ℕ) (v : List Dot) (n i q p left : ℕ) where
 
 -- ---- a turn over the entries
 
-module _ (t s : List ℕ) (v : Clock) (places : List ℕ) (n i p : ℕ) (h : i < n) (k : n ≤ length places) (e : p ≡ getD places i 0) (b : Bool) (f : b ≡ fits t (16 * i) v (clockAt s (p + 4))) where
-  turn-all : fitAll t s v i (slice i n places) ≡ (fits t (16 * i) v (clockAt s (p + 4)) && fitAll t s v (i + 1) (slice (i + 1) n places))
+pub line-room : (own : Bool) (i q n : ℕ) → i < 64 → q ≡ lineFor own i → pick own 1024 16 ≤ n → q + 16 ≤ n
+line-room true i q n h e k = omega arith
+line-room false i q n h e k = omega arith
+
+module _ (t s : List ℕ) (v : Clock) (places : List ℕ) (n i p : ℕ) (h : i < n) (k : n ≤ length places) (e : p ≡ getD places i 0) (b : Bool) (own : Bool) (q : ℕ) (g : q ≡ lineFor own i) (f : b ≡ fits t q v (clockAt s (p + 4))) where
+  turn-all : fitAll t s v own i (slice i n places) ≡ (fits t (lineFor own i) v (clockAt s (p + 4)) && fitAll t s v own (i + 1) (slice (i + 1) n places))
   unfolding fitAll
   turn-all = rw (ahead places i n 0 h k, ← e, add-one i)
 
-  pub all-turn : b ≡ true → fitAll t s v (i + 1) (slice (i + 1) n places) ≡ fitAll t s v i (slice i n places)
-  all-turn y = sym (turn-all ∙ rw (sym f ∙ y))
+  pub all-turn : b ≡ true → fitAll t s v own (i + 1) (slice (i + 1) n places) ≡ fitAll t s v own i (slice i n places)
+  all-turn y = sym (turn-all ∙ rw (← g, sym f ∙ y))
 
-  pub all-stop : b ≡ false → false ≡ fitAll t s v i (slice i n places)
-  all-stop y = sym (turn-all ∙ rw (sym f ∙ y))
+  pub all-stop : b ≡ false → false ≡ fitAll t s v own i (slice i n places)
+  all-stop y = sym (turn-all ∙ rw (← g, sym f ∙ y))
 
-pub all-end : (t s : List ℕ) (v : Clock) (places : List ℕ) (n i : ℕ) → n ≤ i → true ≡ fitAll t s v i (slice i n places)
+pub all-end : (t s : List ℕ) (v : Clock) (own : Bool) (places : List ℕ) (n i : ℕ) → n ≤ i → true ≡ fitAll t s v own i (slice i n places)
 unfolding fitAll
-all-end t s v places n i h = rw (done places i n h)
+all-end t s v own places n i h = rw (done places i n h)

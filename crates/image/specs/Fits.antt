@@ -1,5 +1,5 @@
 -- An entry's clock against the replica's clock v and the kill line of its member, in one walk along v.
-use Prim.Native.Nat.{ℕ, suc, _+_, _*_}
+use Prim.Native.Nat.{ℕ, suc, _+_, _*_, _<_}
 use mathlib.Core.Bool.{Bool, true, false, _&&_}
 use mathlib.Core.List.{List, [], _∷_}
 use lib.Dec.{eqb, leb, ltb}
@@ -10,6 +10,7 @@ use Rattle.dots.specs.Dot.{actorOf}
 use Rattle.dots.specs.Clock.{Clock}
 use Rattle.layout.specs.Fields.{u32At, u64At}
 use Rattle.layout.specs.Clock.{clockAt}
+use Rattle.layout.specs.Kit.{Stands}
 
 -- a counter that d covers, above the line
 abbrev pub within : ℕ → Dot → ℕ → Bool
@@ -26,7 +27,15 @@ fits t q [] (d ∷ ds) = false
 fits t q (x ∷ v) [] = true
 fits t q (x ∷ v) (d ∷ ds) = pick (eqb (actorOf d) (actorOf x)) (within (d .counter) x (getD t q 0) && fits t (suc q) v ds) (fits t (suc q) v (d ∷ ds))
 
+-- where line i of a table stands; or one line for all
+abbrev pub lineFor : Bool → ℕ → ℕ
+lineFor own i = pick own (16 * i) 0
+
 -- the entries at places, the first with line i
-unfoldable pub fitAll : List ℕ → List ℕ → Clock → ℕ → List ℕ → Bool
-fitAll t s v i [] = true
-fitAll t s v i (p ∷ ps) = fits t (16 * i) v (clockAt s (p + 4)) && fitAll t s v (suc i) ps
+unfoldable pub fitAll : List ℕ → List ℕ → Clock → Bool → ℕ → List ℕ → Bool
+fitAll t s v own i [] = true
+fitAll t s v own i (p ∷ ps) = fits t (lineFor own i) v (clockAt s (p + 4)) && fitAll t s v own (suc i) ps
+
+-- at each of the first n places an entry stands
+pub record EachStands (s places : List ℕ) (n : ℕ) : Type 0 where
+  pub each : (i : ℕ) → i < n → Stands s (getD places i 0 + 4)

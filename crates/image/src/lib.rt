@@ -3,11 +3,13 @@ ghost use mathlib.Core.Path.{_≡_};
 ghost use mathlib.Core.Bool.{true};
 ghost use Prim.Native.Nat.{_+_, _*_, _<_, _≤_};
 ghost use lib.ListN.{length, take};
+ghost use Rattle.tables.specs.Table.{pick};
 ghost use Rattle.clocks.specs.VClock.{dotsOf};
 ghost use Rattle.layout.specs.Clock.{clockAt};
 ghost use Rattle.layout.specs.Good.{goodContents};
+ghost use Rattle.layout.specs.Kit.{Stands};
 ghost use Rattle.image.specs.Image.{checkImage, partsImage, noImage, checkCall, clockCall};
-ghost use Rattle.image.specs.Fits.{stepOf, fits, fitAll};
+ghost use Rattle.image.specs.Fits.{stepOf, fits, lineFor, fitAll, EachStands};
 use clocks::VClock;
 use dots::Dot;
 use fields::clock_at;
@@ -121,11 +123,12 @@ fn parts(s: &[u8]) -> Image
 
 // The dot at a place against d and the line: 0 where it is of another actor, 1 where d covers it and it is above the line, 2 where not.
 fn step(s: &[u8], p: usize, d: Dot, line: u64) -> usize
-    requires { ⌜ p < 281474976710656 ⌝ }
+    requires { ⌜ p + 12 ≤ length (now s) ⌝ }
     ensures { λ r. ⌜ (r ≡ stepOf (now (s .entry)) p d line) × (r ≤ 2) ⌝ }
 {
-    if u32_at(s, p) == d.actor.0 {
-        let c = u64_at(s, p + 4);
+    let here = &s[p..p + 12];
+    if u32_at(here, 0) == d.actor.0 {
+        let c = u64_at(here, 4);
         if d.counter < c {
             return 2;
         }
@@ -136,8 +139,8 @@ fn step(s: &[u8], p: usize, d: Dot, line: u64) -> usize
 }
 
 // Whether v covers the clock at a place, and each of its dots is above its number of the line from `from` on: one walk along v.
-fn row_fits(s: &[u8], at: usize, v: VClock, lines: &[u64; 1024], from: usize) -> bool
-    requires { ⌜ (at < 70368744177664) × (v .len ≤ 16) × (from ≤ 1008) ⌝ }
+fn row_fits(s: &[u8], at: usize, v: VClock, lines: &[u64], from: usize) -> bool
+    requires { ⌜ Stands (now s) at × (v .len ≤ 16) × (from + 16 ≤ length (now lines)) ⌝ }
     ensures { λ r. ⌜ r ≡ fits (now (lines .entry)) from (dotsOf v) (clockAt (now (s .entry)) at) ⌝ }
 {
     let n = v.len;
@@ -159,14 +162,22 @@ fn row_fits(s: &[u8], at: usize, v: VClock, lines: &[u64; 1024], from: usize) ->
     left == 0
 }
 
-// The same for each of the n entries, with its own line.
-fn entries_fit(s: &[u8], places: [u32; 64], n: usize, v: VClock, lines: &[u64; 1024]) -> bool
-    requires { ⌜ (n ≤ 64) × (v .len ≤ 16) ⌝ }
-    ensures { λ r. ⌜ r ≡ fitAll (now (lines .entry)) (now (s .entry)) (dotsOf v) 0 (take n places) ⌝ }
+// Where the line of entry i stands: each has its own, or there is one for all.
+fn line_for(own: bool, i: usize) -> usize
+    requires { ⌜ i < 64 ⌝ }
+    ensures { λ r. ⌜ r ≡ lineFor own i ⌝ }
+{
+    if own { 16 * i } else { 0 }
+}
+
+// The same for each of the n entries, with its own line or with one line for all.
+fn entries_fit(s: &[u8], places: [u32; 64], n: usize, v: VClock, lines: &[u64], own: bool) -> bool
+    requires { ⌜ (n ≤ 64) × (v .len ≤ 16) × (pick own 1024 16 ≤ length (now lines)) × EachStands (now s) places n ⌝ }
+    ensures { λ r. ⌜ r ≡ fitAll (now (lines .entry)) (now (s .entry)) (dotsOf v) own 0 (take n places) ⌝ }
 {
     let mut i: usize = 0;
     while i < n {
-        if row_fits(s, wide(places[i]) + 4, v, lines, 16 * i) {
+        if row_fits(s, wide(places[i]) + 4, v, lines, line_for(own, i)) {
             i += 1;
         } else {
             return false;
@@ -175,7 +186,7 @@ fn entries_fit(s: &[u8], places: [u32; 64], n: usize, v: VClock, lines: &[u64; 1
     true
 }
 
-// Any bytes of any length: what they hold, if they are the image of a well-formed replica.
+// Any bytes of any length: what they hold, if they are the image of a well-formed replica. Entries above all waiting removes need no table.
 pub fn check(img: &[u8]) -> Image
     ensures { λ r. ⌜ r ≡ checkImage (now (img .entry)) ⌝ }
 {
@@ -184,6 +195,10 @@ pub fn check(img: &[u8]) -> Image
         let places = x.places;
         let starts = x.starts;
         let clock = x.clock;
+        let top = kills::top_line(img, starts, x.waits, clock);
+        if entries_fit(img, places, x.entries, clock, &top, false) {
+            return x;
+        }
         let mut lines = [0u64; 1024];
         kills::kill_lines(
             img,
@@ -196,7 +211,7 @@ pub fn check(img: &[u8]) -> Image
             [0u64; 16],
             &mut lines,
         );
-        if entries_fit(img, places, x.entries, clock, &lines) {
+        if entries_fit(img, places, x.entries, clock, &lines, true) {
             x
         } else {
             no_image()

@@ -23,9 +23,9 @@ use Rattle.layout.specs.Clock.{dotIn, dotAt, dotsAt, clockEnd, clockEndIn}
 use Rattle.layout.specs.Rows.{membersAt}
 use Rattle.fields.specs.Read.{clockRead}
 use Rattle.fields.proofs.Steps.{list-step, list-end}
-use Rattle.kills.specs.Lines.{reach, along, numbers, lineOf, raiseFrom, raised, spread, killLines, waitRead}
+use Rattle.kills.specs.Lines.{reach, along, numbers, lineOf, raiseFrom, raised, topFrom, spread, killLines, waitRead}
 use Rattle.kills.specs.Posts.{UpTo, Founded}
-use Rattle.kills.specs.Laws.{length-raised, spread-front}
+use Rattle.kills.specs.Laws.{raise-grows, length-raised, spread-front}
 
 -- ---- dots that stand in bytes one after the other
 
@@ -184,18 +184,6 @@ none-above t floor n bs xs l k f h = sym (raised-none t 0 bs xs l (λ m j u v q.
 
 -- a table that is nowhere below the floor stays so
 
-set-grows : (t : List ℕ) (p x q : ℕ) → getD t q 0 ≤ getD (set t p (max (getD t p 0) x)) q 0
-set-grows [] p x q = omega arith
-set-grows (y ∷ t) zero x zero = omega arith
-set-grows (y ∷ t) zero x (suc q) = omega arith
-set-grows (y ∷ t) (suc p) x zero = omega arith
-set-grows (y ∷ t) (suc p) x (suc q) = set-grows t p x q
-
-raise-grows : (t : List ℕ) (p : ℕ) (xs : List ℕ) (q : ℕ) → getD t q 0 ≤ getD (raiseFrom t p xs) q 0
-unfolding raiseFrom
-raise-grows t p [] q = omega arith
-raise-grows t p (x ∷ xs) q = let a = set-grows t p x q in let b = raise-grows (set t p (max (getD t p 0) x)) (suc p) xs q in omega arith
-
 raised-grows : (t : List ℕ) (i : ℕ) (bs : List Bool) (xs : List ℕ) (q : ℕ) → getD t q 0 ≤ getD (raised t i bs xs) q 0
 unfolding raised
 raised-grows t i [] xs q = omega arith
@@ -226,6 +214,16 @@ wait-turn v ms t waits out out′ line n i q h k e f w = rw (ahead waits i n 0 h
 pub wait-end : (v : Clock) (ms t waits out : List ℕ) (n i : ℕ) → n ≤ i → killLines v ms (map (λ p. waitRead t p) (slice i n waits)) out ≡ out
 unfolding killLines
 wait-end v ms t waits out n i h = rw (done waits i n h)
+
+module _ (v : Clock) (t waits top : List ℕ) (n i : ℕ) where
+  pub top-turn : (top′ line : List ℕ) → i < n → n ≤ length waits → line ≡ lineOf v (clockRead t (getD waits i 0)) → top′ ≡ raiseFrom top 0 line
+      → topFrom v (map (λ p. waitRead t p) (slice (i + 1) n waits)) top′ ≡ topFrom v (map (λ p. waitRead t p) (slice i n waits)) top
+  unfolding topFrom waitRead
+  top-turn top′ line h k f w = rw (ahead waits i n 0 h k, w, f)
+
+  pub top-end : n ≤ i → topFrom v (map (λ p. waitRead t p) (slice i n waits)) top ≡ top
+  unfolding topFrom
+  top-end h = rw (done waits i n h)
 
 -- where the members of the waiting remove at a place stand
 pub members-are : (t : List ℕ) (at q n : ℕ) → q ≡ at → n ≡ u32At t q → membersAt t (q + 4 + 12 * n + 4) (min (u32At t (q + 4 + 12 * n)) 64) ≡ waitRead t at .members

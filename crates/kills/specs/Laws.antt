@@ -17,7 +17,7 @@ use Rattle.dots.specs.Dot.{dots, actorOf, noDot}
 use Rattle.dots.specs.Clock.{Clock, count}
 use Rattle.replica.specs.Replica.{Wait, memberRows, memberSets}
 use Rattle.replica.specs.Kills.{killsOf}
-use Rattle.kills.specs.Lines.{reach, along, lineOf, raiseFrom, raised, spread, killLines, killTable}
+use Rattle.kills.specs.Lines.{reach, along, lineOf, raiseFrom, raised, topFrom, spread, killLines, killTable}
 
 -- ---- one walk along a table
 
@@ -83,6 +83,20 @@ raise-here t p (x ∷ xs) (suc j) h l =
     let k : suc p + j < length (set t p (max (getD t p 0) x)) = rw length-set (omega arith) in
     rw e (raise-here (set t p (max (getD t p 0) x)) (suc p) xs j (omega arith) k ∙ ap (λ (y : ℕ). max y (getD xs j 0)) (getD-set-other t p (suc p + j) (max (getD t p 0) x) 0 (λ z. omega arith)))
 
+-- raising lowers nothing
+
+set-grows : (t : List ℕ) (p x q : ℕ) → getD t q 0 ≤ getD (set t p (max (getD t p 0) x)) q 0
+set-grows [] p x q = omega arith
+set-grows (y ∷ t) zero x zero = omega arith
+set-grows (y ∷ t) zero x (suc q) = omega arith
+set-grows (y ∷ t) (suc p) x zero = omega arith
+set-grows (y ∷ t) (suc p) x (suc q) = set-grows t p x q
+
+pub raise-grows : (t : List ℕ) (p : ℕ) (xs : List ℕ) (q : ℕ) → getD t q 0 ≤ getD (raiseFrom t p xs) q 0
+unfolding raiseFrom
+raise-grows t p [] q = omega arith
+raise-grows t p (x ∷ xs) q = let a = set-grows t p x q in let b = raise-grows (set t p (max (getD t p 0) x)) (suc p) xs q in omega arith
+
 -- ---- the marked lines raised
 
 abbrev step : List ℕ → ℕ → Bool → List ℕ → List ℕ
@@ -145,6 +159,21 @@ sets-front (y ∷ t) [] j h l = absurd (omega arith)
 sets-front (y ∷ t) (x ∷ xs) zero h l = ap (λ (r : List ℕ). getD r 0 0) (sets-cons x t 0 xs)
 sets-front (y ∷ t) (x ∷ xs) (suc j) h l = ap (λ (r : List ℕ). getD r (suc j) 0) (sets-cons x t 0 xs) ∙ sets-front t xs j (omega arith) (omega arith)
 
+length-line : (v c : Clock) → length (lineOf v c) ≡ 16
+unfolding lineOf
+length-line v c = length-sets (replicate 16 0) 0 (along dots (map (λ d. actorOf d) v) c)
+
+length-lines : (v : Clock) (ms : List ℕ) (ws : List Wait) (t : List ℕ) → length (killLines v ms ws t) ≡ length t
+unfolding killLines
+length-lines v ms [] t = refl
+length-lines v ms (w ∷ ws) t =
+    let bs = along memberRows ms (w .members) in
+    length-lines v ms ws (raised t 0 bs (lineOf v (w .clock))) ∙ length-raised (lineOf v (w .clock)) (length-line v (w .clock)) t 0 bs
+
+pub length-table : (v : Clock) (ms : List ℕ) (ws : List Wait) (floor t : List ℕ) → length (killTable v ms ws floor t) ≡ length t
+unfolding killTable
+length-table v ms ws floor t = length-lines v ms ws (sets t 0 (spread (length ms) floor)) ∙ length-sets t 0 (spread (length ms) floor)
+
 pub length-marks : (rs : List ℕ) (ks : List ℕ) → length (along memberRows ks rs) ≡ length ks
 length-marks rs [] = refl
 length-marks rs (k ∷ ks) = ap suc (length-marks (reach memberRows k rs) ks)
@@ -166,10 +195,6 @@ module _ (v : Clock) (ms : List ℕ) (va : Rise dots v) (ma : Asc compare ms) (f
       pointwise (d ∷ u) zero h = refl
       pointwise (d ∷ u) (suc j) h = pointwise u j (omega arith)
 
-  length-line : (c : Clock) → length (lineOf v c) ≡ 16
-  unfolding lineOf
-  length-line c = length-sets (replicate 16 0) 0 (along dots (map (λ d. actorOf d) v) c)
-
   mark-at : (w : Wait) → Ordered w → (m : ℕ) → m < length ms → getD (along memberRows ms (w .members)) m false ≡ get memberSets (w .members) (getD ms m 0)
   mark-at w o m h = rw (along-is memberRows ms (w .members) ma (o .members-asc)) (pointwise ms m h)
     where
@@ -185,7 +210,7 @@ module _ (v : Clock) (ms : List ℕ) (va : Rise dots v) (ma : Asc compare ms) (f
   kill-at (w ∷ ws) t m j o h g l =
       let L = lineOf v (w .clock) in
       let bs = along memberRows ms (w .members) in
-      let wide = length-line (w .clock) in
+      let wide = length-line v (w .clock) in
       let l′ : 16 * m + j < length (raised t 0 bs L) = rw (length-raised L wide t 0 bs) l in
       let n = length-marks (w .members) ms in
       let z : 0 + m ≡ m = zero-add m in
@@ -195,6 +220,32 @@ module _ (v : Clock) (ms : List ℕ) (va : Rise dots v) (ma : Asc compare ms) (f
       rw (mark-at w (o .0) m h, line-at (w .clock) (o .0 .clock-asc) j g) at e in
       let r = kill-at ws (raised t 0 bs L) m j (o .1) h g l′ in
       omega arith
+
+  -- a line above all lines: no kill number is above it
+
+  top-grows : (ws : List Wait) (t : List ℕ) (j : ℕ) → getD t j 0 ≤ getD (topFrom v ws t) j 0
+  unfolding topFrom
+  top-grows [] t j = omega arith
+  top-grows (w ∷ ws) t j = let a = raise-grows t 0 (lineOf v (w .clock)) j in let b = top-grows ws (raiseFrom t 0 (lineOf v (w .clock))) j in omega arith
+
+  pub top-above : (ws : List Wait) (t : List ℕ) → length t ≡ 16 → All Ordered ws → (m j : ℕ) → j < length v → killsOf ws m (actorOf (getD v j noDot)) ≤ getD (topFrom v ws t) j 0
+  unfolding topFrom killsOf
+  top-above [] t l o m j h = omega arith
+  top-above (w ∷ ws) t l o m j h =
+      let L = lineOf v (w .clock) in
+      let n : length (raiseFrom t 0 L) ≡ 16 = length-raise t 0 L ∙ l in
+      let wide = length-line v (w .clock) in
+      let z = zero-add j in
+      let e : getD (raiseFrom t 0 L) j 0 ≡ max (getD t j 0) (getD L j 0) = rw z at (raise-here t 0 L j (omega arith) (rw z (omega arith))) in
+      let f = line-at (w .clock) (o .0 .clock-asc) j h in
+      let g = top-grows ws (raiseFrom t 0 L) j in
+      let r = top-above ws (raiseFrom t 0 L) n (o .1) m j h in
+      let p = named (get memberSets (w .members) m) in
+      omega arith
+    where
+      named : (b : Bool) → pick b (count (w .clock) (actorOf (getD v j noDot))) 0 ≤ count (w .clock) (actorOf (getD v j noDot))
+      named true = omega arith
+      named false = omega arith
 
 -- ---- the floor
 

@@ -50,6 +50,15 @@ unfoldable pub killLines : Clock → List ℕ → List Wait → List ℕ → Lis
 killLines v ms [] t = t
 killLines v ms (w ∷ ws) t = killLines v ms ws (raised t 0 (along memberRows ms (w .members)) (lineOf v (w .clock)))
 
+-- a line raised by waiting removes, whatever members they name
+unfoldable pub topFrom : Clock → List Wait → List ℕ → List ℕ
+topFrom v [] t = t
+topFrom v (w ∷ ws) t = topFrom v ws (raiseFrom t 0 (lineOf v (w .clock)))
+
+-- for each actor of v the largest counter that waiting removes have for it
+abbrev pub topLine : Clock → List Wait → List ℕ
+topLine v ws = topFrom v ws (replicate 16 0)
+
 -- n lines, each the floor
 unfoldable pub spread : ℕ → List ℕ → List ℕ
 spread zero floor = []

@@ -12,7 +12,7 @@ ghost use Rattle.layout.specs.Fields.{u32At};
 ghost use Rattle.layout.specs.Clock.{dotsAt};
 ghost use Rattle.layout.specs.Rows.{membersAt};
 ghost use Rattle.fields.specs.Read.{clockRead};
-ghost use Rattle.kills.specs.Lines.{along, numbers, lineOf, raiseFrom, raised, spread, killTable, membersOf, waitRead, waitsOf};
+ghost use Rattle.kills.specs.Lines.{along, numbers, lineOf, raiseFrom, raised, topLine, spread, killTable, membersOf, waitRead, waitsOf};
 ghost use Rattle.kills.specs.Posts.{Skipped, UpTo, Compared, Founded};
 use clocks::VClock;
 use dots::Actor;
@@ -58,6 +58,32 @@ pub fn line_at(t: &[u8], at: u32, v: VClock) -> [Dot; 16]
         i += 1;
     }
     line
+}
+
+// Raises a line to another.
+fn raise_top(top: &mut [u64; 16], line: [Dot; 16])
+    ensures { λ _. ⌜ now (top .exit) ≡ raiseFrom (now (top .entry)) 0 (numbers line) ⌝ }
+{
+    let mut j: usize = 0;
+    while j < 16 {
+        top[j] = larger(top[j], line[j].counter);
+        j += 1;
+    }
+}
+
+// The actors of v, each with the largest counter that any of the k waiting removes at places has for it.
+pub fn top_line(t: &[u8], waits: [u32; 16], k: usize, v: VClock) -> [u64; 16]
+    ensures { λ r. ⌜ r ≡ topLine (dotsOf v) (waitsOf (now (t .entry)) waits k) ⌝ }
+{
+    let number = at_most(k, 16);
+    let mut top = [0u64; 16];
+    let mut i: usize = 0;
+    while i < number {
+        let line = line_at(t, waits[i], v);
+        raise_top(&mut top, line);
+        i += 1;
+    }
+    top
 }
 
 // How many of the dots from a place on have an actor below a.

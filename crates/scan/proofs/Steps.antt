@@ -48,6 +48,15 @@ pub u64-of-part : (s : List ℕ) (at : ℕ) → u64At (take (at + 8 - at) (drop 
 unfolding u64At
 u64-of-part s at = ap₂ (λ (x : ℕ) (y : ℕ). x + y * 4294967296) (first-u32 s at 8 (omega arith)) (part-u32 s at 8 4 (omega arith))
 
+-- the actor and the counter of a part of 12 bytes, which is a dot
+
+pub actor-of-part : (s : List ℕ) (at : ℕ) → u32At (take (at + 12 - at) (drop at s)) 0 ≡ u32At s at
+actor-of-part s at = first-u32 s at 12 (omega arith)
+
+pub counter-of-part : (s : List ℕ) (at : ℕ) → u64At (take (at + 12 - at) (drop at s)) 4 ≡ u64At s (at + 4)
+unfolding u64At
+counter-of-part s at = ap₂ (λ (x : ℕ) (y : ℕ). x + y * 4294967296) (part-u32 s at 12 4 (omega arith)) (part-u32 s at 12 8 (omega arith) ∙ ap (u32At s) (omega arith))
+
 -- ---- dots and members that rise
 
 module _ (s : List ℕ) (p k j low : ℕ) (e : k ≡ j + 1) where

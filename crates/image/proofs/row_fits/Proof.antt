@@ -14,7 +14,7 @@ use Rattle.image.proofs.row_fits.Statement.{statement}
 use Rattle.image.proofs.row_fits.Tie as tie
 
 abbrev Inv-loop : tie.InvT-loop
-Inv-loop s at lines from v n p₀ left₀ i₀ p left i = (i ≤ n) × (p + 12 * left ≤ at + 51539607560) × (fits lines (from + i) (slice i n (v .dots)) (dotsAt s p left) ≡ fits lines from (take n (v .dots)) (dotsAt s p₀ left₀))
+Inv-loop s at lines from v n p₀ left₀ i₀ p left i = (i ≤ n) × (p + 12 * left ≤ length s) × (fits lines (from + i) (slice i n (v .dots)) (dotsAt s p left) ≡ fits lines from (take n (v .dots)) (dotsAt s p₀ left₀))
 
 abbrev μ-loop : tie.MeasureT-loop
 μ-loop s at lines from v n p₀ left₀ i₀ p left i = n - i
@@ -25,7 +25,7 @@ loop-holds c = (search needs, search needs, rw add-zero)
 returns : tie.Need-returns Inv-loop μ-loop
 unfolding clockIn
 returns c =
-    let a = c .before .before .before .before .before .before .args in
+    let a = c .before .before .before .before .before .before .before .args in
     let l = c .before .before .loop in
     let s = a .s .now in
     let n = a .t3 .len in
@@ -37,7 +37,7 @@ returns c =
 returns-2 : tie.Need-returns-2 Inv-loop μ-loop
 unfolding clockIn
 returns-2 c =
-    let a = c .before .before .before .before .before .before .before .before .before .before .args in
+    let a = c .before .before .before .before .before .before .before .before .before .before .before .args in
     let l = c .before .before .before .before .before .before .loop in
     let s = a .s .now in
     let n = a .t3 .len in
@@ -48,7 +48,7 @@ returns-2 c =
 
 loop-again : tie.Need-loop-again Inv-loop μ-loop
 loop-again c =
-    let a = c .before .before .before .before .before .before .before .before .before .before .args in
+    let a = c .before .before .before .before .before .before .before .before .before .before .before .args in
     let l = c .before .before .before .before .before .before .loop in
     let s = a .s .now in
     let n = a .t3 .len in
@@ -63,7 +63,7 @@ loop-again c =
 returns-3 : tie.Need-returns-3 Inv-loop μ-loop
 unfolding clockIn
 returns-3 c =
-    let a = c .before .before .before .before .before .args in
+    let a = c .before .before .before .before .before .before .args in
     let l = c .before .loop in
     let s = a .s .now in
     let n = a .t3 .len in
