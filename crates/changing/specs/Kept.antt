@@ -5,18 +5,18 @@ use mathlib.Core.Path.{_≡_, refl, sym, ap, _∙_}
 use mathlib.Core.Logic.{_⊎_, inl, inr}
 use mathlib.Core.Bool.{Bool, true, false, or-true, false≢true}
 use mathlib.Core.Option.{Option, none, some}
-use mathlib.Core.List.{List, map}
+use mathlib.Core.List.{List, [], map}
 use native.Mathlib.Omega.{arith}
 use lib.Dec.{eqb, ltb, leb}
 use borrow.Author.Tests.{eq-eqb, ne-eqb, eqb-true, eqb-false, le-leb, lt-leb, ltb-true, ltb-false}
 use Rattle.tables.specs.Order.{nat-order}
-use Rattle.tables.specs.Table.{join, Normal, Proper, has, find, find-has, find-all, isSome, pick, pick-all}
+use Rattle.tables.specs.Table.{join, Normal, Proper, has, find, find-has, find-all, isSome, pick, pick-all, ext, normal-join, get-join}
 use Rattle.tables.specs.Zip.{zip, by-lt}
 use Rattle.tables.specs.Walk.{Sub, walked, walked-join}
 use Rattle.dots.specs.declared.Dot.{Dot}
 use Rattle.dots.specs.Dot.{dots, clocks, dot?, counterOf, actorOf}
 use Rattle.dots.specs.Clock.{Clock, count, merged}
-use Rattle.dots.specs.ClockLaws.{merged-count, merged-normal}
+use Rattle.dots.specs.ClockLaws.{merged-count, merged-normal, normal-empty}
 use Rattle.replica.specs.OneDot.{lives}
 use Rattle.replica.specs.Replica.{Entry, Replica, entries, entry, holds, seen, killed}
 use Rattle.replica.specs.Rules.{stay, merge}
@@ -166,6 +166,16 @@ kept-join v A B m x y nv nx ny ax ay =
     walked-join dots (λ a. keepOf (lineOf A m a) (lineOf B m a)) v x y nv ny (nx .asc) (along-sub v x nx ax) (along-sub v y ny ay)
     (λ a z. rw (ax a z, ay a z) (keep-zero (lineOf A m a) (lineOf B m a)))
     (λ a p q. rw (p, q) (keep-zero (lineOf A m a) (lineOf B m a)))
+
+-- what a walk along some actors meets of a clock
+abbrev pub metAlong : List ℕ → Clock → Clock
+metAlong vs x = walked dots (λ a u w. u) vs x []
+
+-- of a clock that the actors of v have all of, it meets the whole
+pub met-whole : (v x : Clock) → Normal clocks v → Normal clocks x → Along v x → metAlong (map actorOf v) x ≡ x
+met-whole v x nv nx h =
+    walked-join dots (λ a u w. u) v x [] nv normal-empty (nx .asc) (along-sub v x nx h) (λ a t. absurd (false≢true t)) h (λ a p q. p)
+    ∙ ext clocks (join clocks (count x) x []) x (normal-join clocks (count x) x [] normal-empty) nx (get-join clocks (count x) x [] (λ a p q. p))
 
 module _ (A B : Replica) (h : Fine A) (g : Fine B) where
   abbrev both : Clock

@@ -19,7 +19,7 @@ use Rattle.dots.specs.declared.Comparison.{Comparison}
 use Rattle.dots.specs.Calls.{means}
 use Rattle.dots.specs.Clock.{Clock, normal, count, covers, applied}
 use Rattle.dots.specs.ClockLaws.{proper-dot, normal-to, normal-empty}
-use Rattle.dots.specs.Ruled.{applied-normal, applied-empty}
+use Rattle.dots.specs.Ruled.{applied-normal, applied-count, applied-empty}
 use Rattle.clocks.specs.declared.VClock.{VClock}
 use Rattle.clocks.specs.declared.ClockAnswer.{ClockAnswer}
 use Rattle.clocks.specs.declared.CounterAnswer.{CounterAnswer}
@@ -41,7 +41,7 @@ use Rattle.layout.specs.Rows.{waitsAt, waitAtPlace, waitEnd}
 use Rattle.layout.specs.Image.{imageIn, imageOf, goodImage, encode, waitsStart, waitsCount}
 use Rattle.layout.specs.Checks.{passed}
 use Rattle.layout.specs.Main.{good-formed}
-use Rattle.changing.specs.Kept.{keptEntries}
+use Rattle.changing.specs.Kept.{Along, keptEntries}
 use Rattle.changing.specs.KeptWaits.{keptWaits}
 use Rattle.changing.specs.Brought.{remove-kept, add-kept}
 use Rattle.changing.specs.Waits.{add-waits, remove-waits}
@@ -60,10 +60,12 @@ use Rattle.operations.specs.Calls.{operated, unfitArguments, applyCall}
 use Rattle.operations.specs.declared.Op.{Op as Operation}
 use Rattle.operations.specs.declared.Op.the-variants.{Add as AnAdd, Remove as ARemove}
 use Rattle.merging.specs.Waiting.{Sound, WaitsReady}
+use Rattle.merging.specs.Rowing.{Goes}
 use Rattle.merging.specs.Draft.{Held, DraftOf}
 use Rattle.merging.specs.Side.{sideOf, SideReady, Brings}
 use Rattle.merging.specs.Apply.{FinishedOf, granted}
 use Rattle.merging.proofs.Link.{held-image, WaitsHeld, held-waits, none-waiting, waits-ready}
+use Rattle.merging.proofs.AlongSteps.{goes-image, goes-brought}
 use Rattle.merging.proofs.Results.{result-drafted, refused-meets}
 use Rattle.merging.proofs.SideImage.{part-fits, part-is, part-counted}
 use Rattle.merging.proofs.WaitSteps.{end-ge}
@@ -214,8 +216,19 @@ module _ (s : List ℕ) (x : Image) (cx : x ≡ checkImage s) (g : x .good ≡ t
           (λ h. let e : l ≡ 0 = omega arith in rw e)
 
       module _ (b : List ℕ) (eb : b ≡ encode B) (v settled : VClock) (few-v : v .len ≤ 16) (normal-v : Normal clocks (dotsOf v)) (few-settled : settled .len ≤ 16) (normal-settled : Normal clocks (dotsOf settled)) where
-        pub draft-ready : Held s x × Held b y × WaitsReady (dotsOf settled) s (waitsStart s) (x .waits) b (waitsStart b) l × (v .len ≤ 16) × (settled .len ≤ 16) × Rise dots (dotsOf v) × (startOf v ≤ 220)
-        draft-ready = rw eb (held-image s x good told, Y .held, waits-ready (dotsOf settled) s (waitsStart s) (x .waits) (encode B) (waitsStart (encode B)) l (held-waits s x good told) side-waits normal-settled, few-v, few-settled, normal-v .asc, omega arith)
+        pub draft-ready : Along (dotsOf v) (A .clock) → (0 < n → Along (dotsOf v) (dotsOf c)) → Held s x × Held b y × WaitsReady (dotsOf settled) s (waitsStart s) (x .waits) b (waitsStart b) l × (v .len ≤ 16) × (settled .len ≤ 16) × Rise dots (dotsOf v) × (startOf v ≤ 220)
+            × Goes (map (λ d. actorOf d) (dotsOf v)) (A .entries) × Goes (map (λ d. actorOf d) (dotsOf v)) (imageOf b .entries)
+        draft-ready av ac = rw (eb, Y .image) (
+          held-image s x good told,
+          Y .held,
+          waits-ready (dotsOf settled) s (waitsStart s) (x .waits) (encode B) (waitsStart (encode B)) l (held-waits s x good told) side-waits normal-settled,
+          few-v,
+          few-settled,
+          normal-v .asc,
+          omega arith,
+          goes-image (dotsOf v) normal-v s good av,
+          goes-brought (dotsOf v) normal-v (dotsOf c) (take n (m .at)) (S .normal) (λ h. ac (let k = length-take n (m .at) in omega arith)),
+        )
 
         pub side-finished : (d : Draft) (out body before : List ℕ) (r : Written) (after : List ℕ) → length out ≡ 18268
             → DraftOf (keptEntries (map (λ d. actorOf d) (dotsOf v)) A (imageOf b)) (keptWaits (dotsOf settled) (waitsAt s (waitsStart s) (x .waits)) (waitsAt b (waitsStart b) l)) (startOf v) d out body
@@ -338,6 +351,12 @@ module _ (s : List ℕ) (x : Image) (cx : x ≡ checkImage s) (g : x .good ≡ t
                 go : (b : Bool) → ltb 16 (length (applied (A .clock) d)) ≡ b → w .no ≡ pick b 6 0 → w .clock ≡ vclock (pick (eqb (pick b 6 0) 0) (applied (A .clock) d) []) → OwnClock (add d ms A) (w .clock)
                 go true e f g = absurd (omega arith)
                 go false e f g = own-clock (add d ms A) (w .clock) (rw added-clock (ltb-false 16 (length (applied (A .clock) d)) e)) (rw added-clock (applied-normal (A .clock) d)) (g ∙ ap vclock (sym added-clock))
+
+            -- it counts all that the old one and the dot do
+            pub added-along : Along (dotsOf (w .clock)) (A .clock) × Along (dotsOf (w .clock)) (dotsOf c)
+            added-along =
+                let o = clock-added in
+                rw (o .dots-are, added-clock, one-dot) (λ i z. let k = applied-count (A .clock) d i in omega arith, λ i z. let k = applied-count (A .clock) d i in omega arith)
 
             pub add-meets : (before : List ℕ) (r : Written) (after : List ℕ)
                 → FinishedOf (keptEntries (map (λ d. actorOf d) (dotsOf (w .clock))) A (sideOf c m (m .len))) (keptWaits (dotsOf (w .clock)) (A .waiting) (take 0 (sideOf c m (m .len) .waiting))) (w .clock) before r after

@@ -1,5 +1,5 @@
 -- The loop over the dots of two entries: one turn, and what is ahead.
-use Prim.Native.Nat.{ℕ, zero, suc, _+_, _*_, _-_, _≤_, _<_, max}
+use Prim.Native.Nat.{ℕ, zero, suc, _+_, _*_, _-_, _≤_, _<_}
 use mathlib.Core.Path.{_≡_, refl, sym, ap, ap₂, _∙_}
 use mathlib.Core.Bool.{Bool, true, false}
 use mathlib.Core.List.{List, [], _∷_, _++_}
@@ -90,29 +90,29 @@ kept-dot s t a la lb out p k i j u w x c out′ small mi mj eu ew ex ec eo =
 -- ---- the loop
 
 -- what is kept from the turn i on
-abbrev pub ahead : List ℕ → List ℕ → List ℕ → List ℕ → List ℕ → ℕ → List ℕ → List ℕ → ℕ → ℕ → Places → ℕ → Clock
-ahead s t vs va ka ja vb kb ib n k i = keptAlong (linesFrom vs va ka ja vb kb ib i (n - i)) (dotsAt s (k .x) (k .xs)) (dotsAt t (k .y) (k .ys))
+abbrev pub ahead : List ℕ → List ℕ → List ℕ → List ℕ → ℕ → List ℕ → ℕ → ℕ → Places → ℕ → Clock
+ahead s t vs ka ja kb ib n k i = keptAlong (linesFrom vs ka ja kb ib i (n - i)) (dotsAt s (k .x) (k .xs)) (dotsAt t (k .y) (k .ys))
 
-pub record Keeping (s t vs va ka : List ℕ) (ja : ℕ) (vb kb : List ℕ) (ib n p ex ey : ℕ) (out₀ : List ℕ) (whole : Clock) (out : List ℕ) (k : Places) (i : ℕ) : Type 0 where
+pub record Keeping (s t vs ka : List ℕ) (ja : ℕ) (kb : List ℕ) (ib n p ex ey : ℕ) (out₀ : List ℕ) (whole : Clock) (out : List ℕ) (k : Places) (i : ℕ) : Type 0 where
   pub within : i ≤ n
   pub few : k .n ≤ i
   pub left-edge : k .x + 12 * k .xs ≡ ex
   pub right-edge : k .y + 12 * k .ys ≡ ey
   pub size : length out ≡ length out₀
-  pub store : sets out (p + 12 * k .n) (encodeDots (ahead s t vs va ka ja vb kb ib n k i)) ≡ sets out₀ p (encodeDots whole)
-  pub count : k .n + length (ahead s t vs va ka ja vb kb ib n k i) ≡ length whole
+  pub store : sets out (p + 12 * k .n) (encodeDots (ahead s t vs ka ja kb ib n k i)) ≡ sets out₀ p (encodeDots whole)
+  pub count : k .n + length (ahead s t vs ka ja kb ib n k i) ≡ length whole
 
-module _ {s t vs va ka : List ℕ} {ja : ℕ} {vb kb : List ℕ} {ib n p ex ey : ℕ} {out₀ : List ℕ} {whole : Clock} {out : List ℕ} {k : Places} {i : ℕ} (z : Keeping s t vs va ka ja vb kb ib n p ex ey out₀ whole out k i) where
-  pub keep-again : i < n → (out′ : List ℕ) (k′ : Places) → KeptDot s t (getD vs i 0) (max (getD va i 0) (getD ka (ja + i) 0)) (max (getD vb i 0) (getD kb (ib + i) 0)) out p k out′ k′
-      → Keeping s t vs va ka ja vb kb ib n p ex ey out₀ whole out′ k′ (i + 1)
+module _ {s t vs ka : List ℕ} {ja : ℕ} {kb : List ℕ} {ib n p ex ey : ℕ} {out₀ : List ℕ} {whole : Clock} {out : List ℕ} {k : Places} {i : ℕ} (z : Keeping s t vs ka ja kb ib n p ex ey out₀ whole out k i) where
+  pub keep-again : i < n → (out′ : List ℕ) (k′ : Places) → KeptDot s t (getD vs i 0) (getD ka (ja + i) 0) (getD kb (ib + i) 0) out p k out′ k′
+      → Keeping s t vs ka ja kb ib n p ex ey out₀ whole out′ k′ (i + 1)
   unfolding linesFrom keptAlong
   keep-again lt out′ k′ d =
       let a = getD vs i 0 in
-      let w = keepOf (max (getD va i 0) (getD ka (ja + i) 0)) (max (getD vb i 0) (getD kb (ib + i) 0)) (said dots a (dotsAt s (k .x) (k .xs))) (said dots a (dotsAt t (k .y) (k .ys))) in
+      let w = keepOf (getD ka (ja + i) 0) (getD kb (ib + i) 0) (said dots a (dotsAt s (k .x) (k .xs))) (said dots a (dotsAt t (k .y) (k .ys))) in
       let l = dotList a w in
       let o = dot? a w in
       let m : n - i ≡ suc (n - (i + 1)) = omega arith in
-      let turn : ahead s t vs va ka ja vb kb ib n k i ≡ cons? o (ahead s t vs va ka ja vb kb ib n k′ (i + 1)) = rw (m, d .left, d .right) in
+      let turn : ahead s t vs ka ja kb ib n k i ≡ cons? o (ahead s t vs ka ja kb ib n k′ (i + 1)) = rw (m, d .left, d .right) in
       let one = d .count in
       let long : length l ≤ 1 = dot-few a w in
       let few = z .few in
@@ -123,8 +123,8 @@ module _ {s t vs va ka : List ℕ} {ja : ℕ} {vb kb : List ℕ} {ib n p ex ey :
         left-edge = d .left-edge ∙ z .left-edge;
         right-edge = d .right-edge ∙ z .right-edge;
         size = ap length (d .bytes) ∙ length-sets out (p + 12 * k .n) (encodeDots l) ∙ z .size;
-        store = rw (d .bytes, place) (wrote encodeDot out (p + 12 * k .n) o (ahead s t vs va ka ja vb kb ib n k′ (i + 1))) ∙ ap (λ (r : Clock). sets out (p + 12 * k .n) (encodeDots r)) (sym turn) ∙ z .store;
-        count = let e = length-cons encodeDot o (ahead s t vs va ka ja vb kb ib n k′ (i + 1)) in let g = ap length turn in let h = z .count in omega arith;
+        store = rw (d .bytes, place) (wrote encodeDot out (p + 12 * k .n) o (ahead s t vs ka ja kb ib n k′ (i + 1))) ∙ ap (λ (r : Clock). sets out (p + 12 * k .n) (encodeDots r)) (sym turn) ∙ z .store;
+        count = let e = length-cons encodeDot o (ahead s t vs ka ja kb ib n k′ (i + 1)) in let g = ap length turn in let h = z .count in omega arith;
       }
     where
       dot-few : (a n : ℕ) → length (dotList a n) ≤ 1
@@ -138,8 +138,8 @@ module _ {s t vs va ka : List ℕ} {ja : ℕ} {vb kb : List ℕ} {ib n p ex ey :
       let m : n - i ≡ 0 = omega arith in
       record { count = rw (m, add-zero) at (z .count); bytes = rw m at (z .store) }
 
-pub keep-begin : (s t vs va ka : List ℕ) (ja : ℕ) (vb kb : List ℕ) (ib n p x xs y ys : ℕ) (out : List ℕ)
-    → Keeping s t vs va ka ja vb kb ib n p (x + 12 * xs) (y + 12 * ys) out (keptAlong (linesFrom vs va ka ja vb kb ib 0 n) (dotsAt s x xs) (dotsAt t y ys)) out (record { x = x; xs = xs; y = y; ys = ys; n = 0 }) 0
-keep-begin s t vs va ka ja vb kb ib n p x xs y ys out =
+pub keep-begin : (s t vs ka : List ℕ) (ja : ℕ) (kb : List ℕ) (ib n p x xs y ys : ℕ) (out : List ℕ)
+    → Keeping s t vs ka ja kb ib n p (x + 12 * xs) (y + 12 * ys) out (keptAlong (linesFrom vs ka ja kb ib 0 n) (dotsAt s x xs) (dotsAt t y ys)) out (record { x = x; xs = xs; y = y; ys = ys; n = 0 }) 0
+keep-begin s t vs ka ja kb ib n p x xs y ys out =
     let e : n - 0 ≡ n = omega arith in
     record { within = omega arith; few = omega arith; left-edge = refl; right-edge = refl; size = refl; store = rw (e, mul-zero, add-zero); count = rw (e, zero-add) }

@@ -1,5 +1,6 @@
 pub mod AheadSteps
 pub mod KeepSteps
+pub mod WholeSteps
 pub mod RowSteps
 pub mod SideSteps
 pub mod SideImage
@@ -13,6 +14,7 @@ pub mod WaitLoop
 pub mod DraftSteps
 pub mod Sides
 pub mod Link
+pub mod AlongSteps
 pub mod Results
 pub mod Merges
 pub mod ResetLists

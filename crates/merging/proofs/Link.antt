@@ -56,6 +56,7 @@ held-image s x g e =
       number = n;
       few = omega (arith, P .few-members);
       edge = omega arith;
+      room = omega arith;
       rise = rows-rise s (entriesStart s) 0 (entriesCount s) (P .rows-good);
       members = t .members-stood;
       waiting = t .waits-stood;

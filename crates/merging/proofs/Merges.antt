@@ -12,7 +12,7 @@ use Rattle.tables.specs.Refusal.{firstOf}
 use Rattle.tables.specs.Zip.{Rise}
 use Rattle.dots.specs.Dot.{dots, clocks, actorOf}
 use Rattle.dots.specs.Clock.{Clock, merged}
-use Rattle.dots.specs.ClockLaws.{merged-normal}
+use Rattle.dots.specs.ClockLaws.{merged-normal, merged-count}
 use Rattle.clocks.specs.declared.VClock.{VClock}
 use Rattle.clocks.specs.declared.ClockAnswer.{ClockAnswer}
 use Rattle.clocks.specs.VClock.{dotsOf, vclock, len-vclock, dots-vclock, vclock-normalised}
@@ -36,9 +36,11 @@ use Rattle.image.specs.declared.Image.{Image}
 use Rattle.image.specs.Image.{imageOfBytes, checkImage}
 use Rattle.image.proofs.Link.{image-good}
 use Rattle.merging.specs.Waiting.{WaitsReady}
+use Rattle.merging.specs.Rowing.{Goes}
 use Rattle.merging.specs.Draft.{Held, DraftOf}
 use Rattle.merging.specs.Merge.{mergeCall}
 use Rattle.merging.proofs.Link.{held-image, held-waits, waits-ready}
+use Rattle.merging.proofs.AlongSteps.{goes-image}
 use Rattle.merging.proofs.Results.{result-drafted, refused-meets}
 
 -- the clock of the merge, as the code has it
@@ -112,10 +114,20 @@ module _ (a : List ℕ) (x : Image) (cx : x ≡ checkImage a) (gx : x .good ≡ 
 
     -- what the draft is asked with
     pub merge-ready : Held a x × Held b y × WaitsReady (dotsOf (m .clock)) a (waitsStart a) (x .waits) b (waitsStart b) (y .waits) × (m .clock .len ≤ 16) × (m .clock .len ≤ 16) × Rise dots (dotsOf (m .clock)) × (startOf (m .clock) ≤ 220)
+        × Goes (map (λ d. actorOf d) (dotsOf (m .clock))) (imageOf a .entries) × Goes (map (λ d. actorOf d) (dotsOf (m .clock))) (imageOf b .entries)
     merge-ready =
         let c = clock-merged in
-        let f = c .few in
-        (held-image a x ga ex, held-image b y gb ey, waits-ready (dotsOf (m .clock)) a (waitsStart a) (x .waits) b (waitsStart b) (y .waits) (held-waits a x ga ex) (held-waits b y gb ey) (c .normal), f, f, c .normal .asc, omega arith)
+        let f = c .few in (
+          held-image a x ga ex,
+          held-image b y gb ey,
+          waits-ready (dotsOf (m .clock)) a (waitsStart a) (x .waits) b (waitsStart b) (y .waits) (held-waits a x ga ex) (held-waits b y gb ey) (c .normal),
+          f,
+          f,
+          c .normal .asc,
+          omega arith,
+          goes-image (dotsOf (m .clock)) (c .normal) a ga (rw (c .dots-are) (λ i z. let k = merged-count (imageOf a .clock) (imageOf b .clock) i in omega arith)),
+          goes-image (dotsOf (m .clock)) (c .normal) b gb (rw (c .dots-are) (λ i z. let k = merged-count (imageOf a .clock) (imageOf b .clock) i in omega arith)),
+        )
 
     granted-formed : broken full (merge (imageOf a) (imageOf b)) ≡ 0 → T (wellFormed full (merge (imageOf a) (imageOf b)))
     unfolding step fits

@@ -1,23 +1,21 @@
 -- The loop over the entries of two images.
-use Prim.Native.Nat.{ℕ, zero, suc, _+_, _*_, _%_, _≤_, _<_, max, min}
+use Prim.Native.Nat.{ℕ, zero, suc, _+_, _*_, _%_, _≤_, _<_, min}
 use mathlib.Core.Path.{_≡_, refl, sym, ap, ap₂, _∙_}
 use mathlib.Core.Logic.{_⊎_, inl, inr}
 use mathlib.Core.Bool.{Bool, true, false}
 use mathlib.Core.List.{List, [], _∷_}
 use native.Mathlib.Omega.{arith}
 use native.Mathlib.Nat.{add-zero, zero-add}
-use native.Mathlib.Numerals.{add-one}
 use lib.Dec.{eqb}
 use lib.ListN.{length, getD, take, drop, length-append}
-use lib.Seq.{sets, length-sets, drop-cons}
+use lib.Seq.{sets, length-sets}
 use borrow.Author.Tests.{eqb-true, le-ltb}
-use Rattle.tables.specs.Table.{pick, cons?}
+use Rattle.tables.specs.Table.{All, pick, cons?}
 use Rattle.tables.specs.Zip.{zip, said, past, Rise, rise-past, zip-step, zip-nil, tail}
 use Rattle.tables.specs.Walk.{walked}
 use Rattle.dots.specs.Dot.{dots, dot?}
-use Rattle.dots.specs.Clock.{Clock, count}
+use Rattle.dots.specs.Clock.{Clock}
 use Rattle.replica.specs.Replica.{Entry, Replica, entry?, entryRows, entries}
-use Rattle.replica.specs.Kills.{killsOf}
 use Rattle.layout.specs.Fields.{u32At}
 use Rattle.layout.specs.Lists.{listAt, bytesOf}
 use Rattle.layout.specs.Form.{length-listAt}
@@ -26,7 +24,8 @@ use Rattle.merging.specs.declared.entries.Rows.{Rows}
 use Rattle.merging.specs.Ahead.{keyAhead, front-ahead, wrote, length-cons, bytes-cons}
 use Rattle.changing.specs.Kept.{keepOf, lineOf, keptClock, keptEntries}
 use Rattle.merging.specs.Keeping.{linesFrom, keptAlong}
-use Rattle.merging.specs.Rowing.{Side, Ready, turnEntry, MergedRow, WroteRows}
+use Rattle.merging.specs.Rowing.{RowsAhead, Side, Ready, turnEntry, MergedRow, WroteRows}
+use Rattle.merging.proofs.WholeSteps.{actorsFrom, actors-take}
 
 -- ---- the lines of a member
 
@@ -37,28 +36,16 @@ keep-same la la′ lb lb′ u w (inl p) (inr q) = rw (p, q, le-ltb lb 0 (omega a
 keep-same la la′ lb lb′ u w (inr p) (inl q) = rw (p, q, le-ltb la 0 (omega arith), le-ltb la′ 0 (omega arith))
 keep-same la la′ lb lb′ u w (inr p) (inr q) = rw (p, q)
 
--- n actors from k on
-abbrev actorsFrom : List ℕ → ℕ → ℕ → List ℕ
-actorsFrom vs k zero = []
-actorsFrom vs k (suc n) = getD vs k 0 ∷ actorsFrom vs (k + 1) n
-
-actors-take : (vs : List ℕ) (k n : ℕ) → k + n ≤ length vs → actorsFrom vs k n ≡ take n (drop k vs)
-actors-take vs k zero h = refl
-actors-take vs k (suc n) h = ap (λ (l : List ℕ). getD vs k 0 ∷ l) (actors-take vs (k + 1) n (omega arith)) ∙ sym (ap (take (suc n)) (drop-one vs k (omega arith)))
-  where
-    drop-one : (vs : List ℕ) (k : ℕ) → k < length vs → drop k vs ≡ getD vs k 0 ∷ drop (k + 1) vs
-    drop-one vs k h = rw add-one (drop-cons vs k 0 h)
-
 -- what a side reads for an actor, or that it has no dots
 abbrev Or : Clock → (ℕ → Type 0) → Type 0
 Or x P = (x ≡ []) ⊎ ((i : ℕ) → P i)
 
-module _ (vs va ka : List ℕ) (ja : ℕ) (vb kb : List ℕ) (ib N : ℕ) (f g : ℕ → ℕ) where
+module _ (vs ka : List ℕ) (ja : ℕ) (kb : List ℕ) (ib N : ℕ) (f g : ℕ → ℕ) where
   abbrev Ours : ℕ → Type 0
-  Ours i = i < N → max (getD va i 0) (getD ka (ja + i) 0) ≡ f (getD vs i 0)
+  Ours i = i < N → getD ka (ja + i) 0 ≡ f (getD vs i 0)
 
   abbrev Theirs : ℕ → Type 0
-  Theirs i = i < N → max (getD vb i 0) (getD kb (ib + i) 0) ≡ g (getD vs i 0)
+  Theirs i = i < N → getD kb (ib + i) 0 ≡ g (getD vs i 0)
 
   or-past : (x : Clock) (P : ℕ → Type 0) (a : ℕ) → Or x P → Or (past dots a x) P
   or-past x P a (inl e) = inl (rw e)
@@ -69,7 +56,7 @@ module _ (vs va ka : List ℕ) (ja : ℕ) (vb kb : List ℕ) (ib N : ℕ) (f g :
   or-said x P a k h (inr p) = inr (h (p k))
 
   lines-walked : (k n : ℕ) (x y : Clock) → k + n ≤ N → Or x Theirs → Or y Ours
-      → keptAlong (linesFrom vs va ka ja vb kb ib k n) x y ≡ walked dots (λ a. keepOf (f a) (g a)) (actorsFrom vs k n) x y
+      → keptAlong (linesFrom vs ka ja kb ib k n) x y ≡ walked dots (λ a. keepOf (f a) (g a)) (actorsFrom vs k n) x y
   unfolding linesFrom keptAlong walked
   lines-walked k zero x y h p q = refl
   lines-walked k (suc n) x y h p q =
@@ -122,32 +109,36 @@ past-drop es (x ∷ xs) i i′ m m′ low e l s p = go (eqb (x .member) low) p
     go false p = let z : i ≡ i′ = omega arith in rw (← z) e
 
 -- the lines that the turn reads for the member low
-lines-at : (A : Replica) (s : List ℕ) (p m : ℕ) (vs va k : List ℕ) (n : ℕ) (es : List Entry) → Side A s p m vs va k n es
+lines-at : (A : Replica) (s : List ℕ) (p m : ℕ) (vs k : List ℕ) (n : ℕ) (es : List Entry) → Side A s p m vs k n es
     → (low j : ℕ) (rows : List Entry) → rows ≡ drop j es → j + length rows ≤ 64
-    → Or (said entryRows low rows) (λ i. i < n → max (getD va i 0) (getD k (16 * (j % 64) + i) 0) ≡ lineOf A low (getD vs i 0))
-unfolding lineOf
-lines-at A s p m vs va k n es h low j [] e f = inl refl
-lines-at A s p m vs va k n es h low j (r ∷ rows) e f = go (eqb (r .member) low) refl
+    → Or (said entryRows low rows) (λ i. i < n → getD k (16 * (j % 64) + i) 0 ≡ lineOf A low (getD vs i 0))
+lines-at A s p m vs k n es h low j [] e f = inl refl
+lines-at A s p m vs k n es h low j (r ∷ rows) e f = go (eqb (r .member) low) refl
   where
-    go : (b : Bool) → eqb (r .member) low ≡ b → Or (pick b (r .clock) []) (λ i. i < n → max (getD va i 0) (getD k (16 * (j % 64) + i) 0) ≡ max (count (A .clock) (getD vs i 0)) (killsOf (A .waiting) low (getD vs i 0)))
+    go : (b : Bool) → eqb (r .member) low ≡ b → Or (pick b (r .clock) []) (λ i. i < n → getD k (16 * (j % 64) + i) 0 ≡ lineOf A low (getD vs i 0))
     go false b = inl refl
     go true b = inr (λ i l.
         let z : j % 64 ≡ j = omega arith in
         let y : r .member ≡ low = eqb-true (r .member) low b in
-        ap₂ max (h .clock i l) (rw (z, ← y) (h .lines j i r rows (sym e) l)))
+        rw (z, ← y) (h .lines j i r rows (sym e) l))
 
-module _ (A B : Replica) (s : List ℕ) (p m : ℕ) (t : List ℕ) (q k : ℕ) (vs : List ℕ) (n : ℕ) (va ka vb kb : List ℕ) (R : Ready A B s p m t q k vs n va ka vb kb) where
+all-drop : {R : Type 0} (P : R → Type 0) (i : ℕ) (rs : List R) → All P rs → All P (drop i rs)
+all-drop P zero rs h = h
+all-drop P (suc i) [] h = tt
+all-drop P (suc i) (r ∷ rs) h = all-drop P i rs (h .1)
+
+module _ (A B : Replica) (s : List ℕ) (p m : ℕ) (t : List ℕ) (q k : ℕ) (vs : List ℕ) (n : ℕ) (ka kb : List ℕ) (R : Ready A B s p m t q k vs n ka kb) where
   abbrev cs : List ℕ
   cs = take n vs
 
   -- the turn's entry is the kept one
   turn-kept : (low : ℕ) (w : Rows) (xs ys : List Entry) → xs ≡ drop (w .i) (A .entries) → ys ≡ drop (w .j) (B .entries) → w .i + length xs ≤ 64 → w .j + length ys ≤ 64
-      → turnEntry vs n va ka vb kb low w xs ys ≡ entry? low (keptClock cs A B low (said entryRows low xs) (said entryRows low ys))
+      → turnEntry vs n ka kb low w xs ys ≡ entry? low (keptClock cs A B low (said entryRows low xs) (said entryRows low ys))
   unfolding keptClock
   turn-kept low w xs ys ex ey fx fy = ap (entry? low)
-      (lines-walked vs va ka (16 * (w .j % 64)) vb kb (16 * (w .i % 64)) n (lineOf A low) (lineOf B low) 0 n (said entryRows low xs) (said entryRows low ys) (omega arith)
-      (lines-at B t q k vs vb kb n (A .entries) (R .theirs) low (w .i) xs ex fx)
-      (lines-at A s p m vs va ka n (B .entries) (R .ours) low (w .j) ys ey fy)
+      (lines-walked vs ka (16 * (w .j % 64)) kb (16 * (w .i % 64)) n (lineOf A low) (lineOf B low) 0 n (said entryRows low xs) (said entryRows low ys) (omega arith)
+      (lines-at B t q k vs kb n (A .entries) (R .theirs) low (w .i) xs ex fx)
+      (lines-at A s p m vs ka n (B .entries) (R .ours) low (w .j) ys ey fy)
       ∙ ap (λ (l : List ℕ). walked dots (λ a. keepOf (lineOf A low a) (lineOf B low a)) l (said entryRows low xs) (said entryRows low ys)) (actors-take vs 0 n (let l = R .long in omega arith)))
 
   pub rows-begin : (at : ℕ) (out : List ℕ) → Rowing cs A B s t m k at (rowsEnd s p m) (rowsEnd t q k) out out (record { p = p; m = m; i = 0; q = q; k = k; j = 0; at = at; n = 0 })
@@ -172,7 +163,18 @@ module _ (A B : Replica) (s : List ℕ) (p m : ℕ) (t : List ℕ) (q k : ℕ) (
       }
 
   module _ {at : ℕ} {out₀ out : List ℕ} {w : Rows} (z : Rowing cs A B s t m k at (rowsEnd s p m) (rowsEnd t q k) out₀ out w) where
-    pub rows-again : (out′ : List ℕ) (w′ : Rows) → MergedRow s t vs n va ka vb kb (min (keyAhead s (w .p) (w .m)) (keyAhead t (w .q) (w .k))) out w out′ w′
+    -- the rows ahead
+    pub left-ahead : RowsAhead s (w .p) (w .m) cs
+    left-ahead =
+        let a = R .ours .ahead in
+        record { edge = rw (z .left-edge) (a .edge); room = rw (z .left-edge) (a .room); goes = rw (z .left) (all-drop _ (w .i) (A .entries) (rw (R .ours .rows) at (a .goes))) }
+
+    pub right-ahead : RowsAhead t (w .q) (w .k) cs
+    right-ahead =
+        let a = R .theirs .ahead in
+        record { edge = rw (z .right-edge) (a .edge); room = rw (z .right-edge) (a .room); goes = rw (z .right) (all-drop _ (w .j) (B .entries) (rw (R .theirs .rows) at (a .goes))) }
+
+    pub rows-again : (out′ : List ℕ) (w′ : Rows) → MergedRow s t vs n ka kb (min (keyAhead s (w .p) (w .m)) (keyAhead t (w .q) (w .k))) out w out′ w′
         → Rowing cs A B s t m k at (rowsEnd s p m) (rowsEnd t q k) out₀ out′ w′
     rows-again out′ w′ d =
         let small = d .small in
@@ -184,7 +186,7 @@ module _ (A B : Replica) (s : List ℕ) (p m : ℕ) (t : List ℕ) (q k : ℕ) (
         let lx = length-listAt rowAt rowEnd s (w .p) (w .m) in
         let ly = length-listAt rowAt rowEnd t (w .q) (w .k) in
         let ls = z .left-step in let rs = z .right-step in let fa = R .ours .few in let fb = R .theirs .few in
-        let e : turnEntry vs n va ka vb kb low w xs ys ≡ o = turn-kept low w xs ys (z .left) (z .right) (omega arith) (omega arith) in
+        let e : turnEntry vs n ka kb low w xs ys ≡ o = turn-kept low w xs ys (z .left) (z .right) (omega arith) (omega arith) in
         let step : zip entries h xs ys ≡ cons? o (rowsLeft cs A B s t w′) =
         zip-step entryRows h 4294967296 low xs ys (z .left-rise) (z .right-rise) small (ap₂ min (front-ahead entryRows rowAt rowEnd keyed s (w .p) (w .m)) (front-ahead entryRows rowAt rowEnd keyed t (w .q) (w .k)))
         ∙ ap (cons? o) (ap₂ (zip entries h) (sym (d .left)) (sym (d .right))) in

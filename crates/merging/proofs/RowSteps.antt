@@ -10,9 +10,10 @@ use lib.ListN.{length, set, length-append}
 use lib.Seq.{sets, set-comm}
 use borrow.Author.Tests.{eq-eqb, ne-eqb}
 use Rattle.tables.specs.Table.{pick, cons?}
+use Rattle.tables.specs.Walk.{walked}
 use Rattle.tables.specs.Zip.{said, past, by-lt}
 use Rattle.dots.specs.Clock.{Clock}
-use Rattle.replica.specs.Replica.{entry?, entryRows}
+use Rattle.replica.specs.Replica.{Entry, entry?, entryRows}
 use Rattle.layout.specs.Fields.{u32At, le32, length-le32}
 use Rattle.layout.specs.Lists.{listAt, endAfter, bytesOf}
 use Rattle.layout.specs.Clock.{dotsAt, encodeDots, clockIn, clockEndIn, encodeClockIn}
@@ -20,7 +21,8 @@ use Rattle.layout.specs.Rows.{rowIn, rowEndIn, rowAt, rowEnd, rowsAt, rowsEnd, 
 use Rattle.merging.specs.declared.entries.Rows.{Rows}
 use Rattle.merging.specs.Ahead.{keyAhead, KeyAhead, hits, Met, said-ahead, past-ahead}
 use Rattle.merging.specs.Keeping.{KeptDots, linesFrom, keptAlong}
-use Rattle.merging.specs.Rowing.{MergedRow}
+use Rattle.changing.specs.Kept.{metAlong}
+use Rattle.merging.specs.Rowing.{Goes, RowsAhead, MergedRow}
 use Rattle.merging.proofs.KeepSteps.{length-dots}
 
 -- ---- a run of stores before another
@@ -67,7 +69,7 @@ pub record RowSide (s : List ℕ) (p m low i xs : ℕ) : Type 0 where
   pub room : p + 8 * i + 12 * xs ≤ rowsEnd s p m
   pub rows : rowsAt s (p + 8 * i + 12 * xs) (m - i) ≡ past entryRows low (rowsAt s p m)
   pub edge : rowsEnd s (p + 8 * i + 12 * xs) (m - i) ≡ rowsEnd s p m
-  pub dots : dotsAt s (p + 8) xs ≡ said entryRows low (rowsAt s p m)
+  pub dots : dotsAt s (p + 8 * i) xs ≡ said entryRows low (rowsAt s p m)
 
 side-by : (s : List ℕ) (p m low : ℕ) → low < 4294967296 → (b : Bool) → eqb (keyAhead s p m) low ≡ b → pick b 1 0 ≤ m
     → RowSide s p m low (pick b 1 0) (pick (eqb (pick b 1 0) 0) 0 (u32At s (p + 4)))
@@ -107,24 +109,46 @@ row-side s p m low i xs small h e =
     let q = h .is small in
     rw (e, q) (side-by s p m low small (eqb (keyAhead s p m) low) refl (rw q at (h .fits)))
 
--- the numbers of a turn are small
-pub record RowNumbers (w : Rows) (i j xs ys : ℕ) : Type 0 where
+-- the numbers of a turn are small, and its dots inside
+pub record RowNumbers (s t : List ℕ) (w : Rows) (i j xs ys : ℕ) : Type 0 where
   pub left-one : i ≤ 1
   pub right-one : j ≤ 1
   pub left-fits : i ≤ w .m
   pub right-fits : j ≤ w .k
   pub left-room : w .p + 8 * i + 12 * xs < 4294967296
   pub right-room : w .q + 8 * j + 12 * ys < 4294967296
+  pub left-inside : w .p + 8 * i + 12 * xs ≤ length s
+  pub right-inside : w .q + 8 * j + 12 * ys ≤ length t
 
-pub row-numbers : (s t : List ℕ) (w : Rows) (low i j xs ys : ℕ) → rowsEnd s (w .p) (w .m) < 4294967296 → rowsEnd t (w .q) (w .k) < 4294967296 → RowSide s (w .p) (w .m) low i xs → RowSide t (w .q) (w .k) low j ys → RowNumbers w i j xs ys
-row-numbers s t w low i j xs ys ea eb a b = record {
+pub row-numbers : (s t : List ℕ) (w : Rows) (low i j xs ys : ℕ) (cs : List ℕ) → RowsAhead s (w .p) (w .m) cs → RowsAhead t (w .q) (w .k) cs → RowSide s (w .p) (w .m) low i xs → RowSide t (w .q) (w .k) low j ys
+    → RowNumbers s t w i j xs ys
+row-numbers s t w low i j xs ys cs p q a b = let ea = p .edge in let eb = q .edge in let ra = p .room in let rb = q .room in let ia = a .room in let ib = b .room in record {
   left-one = a .one;
   right-one = b .one;
   left-fits = a .fits;
   right-fits = b .fits;
-  left-room = omega (arith, a .room);
-  right-room = omega (arith, b .room);
+  left-room = omega arith;
+  right-room = omega arith;
+  left-inside = omega arith;
+  right-inside = omega arith;
 }
+
+-- a walk along the actors meets all dots of the row
+met-none : (cs : List ℕ) → metAlong cs [] ≡ []
+unfolding walked
+met-none [] = refl
+met-none (c ∷ cs) = met-none cs
+
+goes-said : (cs : List ℕ) (low : ℕ) (es : List Entry) → Goes cs es → metAlong cs (said entryRows low es) ≡ said entryRows low es
+goes-said cs low [] g = met-none cs
+goes-said cs low (e ∷ es) g = go (eqb (e .member) low)
+  where
+    go : (b : Bool) → metAlong cs (pick b (e .clock) []) ≡ pick b (e .clock) []
+    go true = g .0
+    go false = met-none cs
+
+pub row-goes : (cs s : List ℕ) (p m low i xs : ℕ) → RowsAhead s p m cs → RowSide s p m low i xs → metAlong cs (dotsAt s (p + 8 * i) xs) ≡ dotsAt s (p + 8 * i) xs
+row-goes cs s p m low i xs h a = rw (a .dots) (goes-said cs low (rowsAt s p m) (h .goes))
 
 -- one of the two sides is met
 pub met-one : (s : List ℕ) (p m : ℕ) (t : List ℕ) (q k low i j : ℕ) → low ≡ min (keyAhead s p m) (keyAhead t q k) → low < 4294967296 → Met s p m low i → Met t q k low j → 0 < i + j
@@ -164,12 +188,12 @@ row-put out at low (d ∷ K) c out′ out″ k e =
 
 -- ---- the turn
 
-module _ (s t vs : List ℕ) (n : ℕ) (va ka vb kb out : List ℕ) (w : Rows) (low : ℕ) (least : low ≡ min (keyAhead s (w .p) (w .m)) (keyAhead t (w .q) (w .k))) (small : low < 4294967296) where
+module _ (s t vs : List ℕ) (n : ℕ) (ka kb out : List ℕ) (w : Rows) (low : ℕ) (least : low ≡ min (keyAhead s (w .p) (w .m)) (keyAhead t (w .q) (w .k))) (small : low < 4294967296) where
   pub merged-row : (i j xs ys c long one : ℕ) (mid out′ : List ℕ) → Met s (w .p) (w .m) low i → Met t (w .q) (w .k) low j
       → xs ≡ pick (eqb i 0) 0 (u32At s (w .p + 4)) → ys ≡ pick (eqb j 0) 0 (u32At t (w .q + 4))
-      → c ≤ 16 → KeptDots out (w .at + 8) (keptAlong (linesFrom vs va ka (16 * (w .j % 64)) vb kb (16 * (w .i % 64)) 0 n) (dotsAt s (w .p + 8) xs) (dotsAt t (w .q + 8) ys)) mid c
+      → c ≤ 16 → KeptDots out (w .at + 8) (keptAlong (linesFrom vs ka (16 * (w .j % 64)) kb (16 * (w .i % 64)) 0 n) (dotsAt s (w .p + 8 * i) xs) (dotsAt t (w .q + 8 * j) ys)) mid c
       → long ≡ pick (eqb c 0) 0 (8 + 12 * c) → out′ ≡ sets mid (w .at) (pick (eqb c 0) [] (le32 low ++ le32 c)) → one ≡ pick (eqb c 0) 0 1
-      → MergedRow s t vs n va ka vb kb (min (keyAhead s (w .p) (w .m)) (keyAhead t (w .q) (w .k))) out w out′
+      → MergedRow s t vs n ka kb (min (keyAhead s (w .p) (w .m)) (keyAhead t (w .q) (w .k))) out w out′
       (record { p = w .p + 8 * i + 12 * xs; m = w .m - i; i = w .i + i; q = w .q + 8 * j + 12 * ys; k = w .k - j; j = w .j + j; at = w .at + long; n = w .n + one })
   merged-row i j xs ys c long one mid out′ mi mj ex ey cf kd el eo en =
       let a = row-side s (w .p) (w .m) low i xs small mi ex in
@@ -178,7 +202,7 @@ module _ (s t vs : List ℕ) (n : ℕ) (va ka vb kb out : List ℕ) (w : Rows) (
       let r = row-put out (w .at) low _ c mid out′ kd′ eo in
       let g = met-one s (w .p) (w .m) t (w .q) (w .k) low i j least small mi mj in
       let fa = a .fits in let fb = b .fits in
-      subst (λ (l : ℕ). MergedRow s t vs n va ka vb kb l out w out′ next) least record {
+      subst (λ (l : ℕ). MergedRow s t vs n ka kb l out w out′ next) least record {
         small = small;
         left = a .rows;
         right = b .rows;

@@ -94,6 +94,9 @@ module _ (B : Replica) (fits : Fits B) (short : lengthOf narrow B < 65536) where
   rows-edge : rowsEnd s (entriesStart s) (entriesCount s) < 65536
   rows-edge = let e = waits-edge in let r = readable .waits-start-ok in let g = end-ge s (waitsStart s) (waitsCount s) in omega arith
 
+  rows-room : rowsEnd s (entriesStart s) (entriesCount s) ≤ length s
+  rows-room = let e = readable .end-ok in let r = readable .waits-start-ok in let g = end-ge s (waitsStart s) (waitsCount s) in omega arith
+
   pub brings : length (B .clock) ≤ 16 → length (B .entries) ≤ 64 → Rise entryRows (B .entries) → All Ordered (B .waiting)
       → (y : Image) → y .entries ≡ length (B .entries) → membersOf s (y .places) (y .entries) ≡ map (λ e. e .member) (B .entries) → waitsOf s (y .starts) (y .waits) ≡ B .waiting → Brings B s y
   brings few many rise ordered y en members waiting = record {
@@ -105,6 +108,7 @@ module _ (B : Replica) (fits : Fits B) (short : lengthOf narrow B < 65536) where
       number = en ∙ sym rows-count;
       few = omega arith;
       edge = rows-edge;
+      room = rows-room;
       rise = rw back rise;
       members = rw back members;
       waiting = rw back waiting;

@@ -1,9 +1,9 @@
 -- What the loop over entries starts from, of two sides that are held.
-use Prim.Native.Nat.{ℕ, zero, suc, _+_, _*_, _≤_, _<_}
+use Prim.Native.Nat.{ℕ, zero, suc, _+_, _*_, _≤_, _<_, max}
 use mathlib.Core.Path.{_≡_, refl, sym, ap, ap₂, _∙_}
 use mathlib.Core.List.{List, [], _∷_, map}
 use native.Mathlib.Omega.{arith}
-use lib.ListN.{length, take, drop, getD, replicate, length-map, length-replicate, getD-replicate}
+use lib.ListN.{length, take, drop, getD, replicate, length-map, length-replicate}
 use Rattle.tables.specs.Zip.{Rise}
 use Rattle.dots.specs.Dot.{dots, actorOf}
 use Rattle.clocks.specs.declared.VClock.{VClock}
@@ -18,7 +18,8 @@ use Rattle.layout.specs.Form.{length-listAt}
 use Rattle.kills.specs.Lines.{killTable, membersOf, waitsOf}
 use Rattle.kills.specs.Laws.{kill-numbers}
 use Rattle.image.specs.declared.Image.{Image}
-use Rattle.merging.specs.Rowing.{Side, Ready}
+use Rattle.changing.specs.Kept.{lineOf}
+use Rattle.merging.specs.Rowing.{Goes, Side, Ready}
 use Rattle.merging.specs.Draft.{Counts, Held}
 use Rattle.merging.proofs.DraftSteps.{taken-at, clock-long}
 
@@ -31,48 +32,52 @@ held-few : (s : List ℕ) (x : Image) → Held s x → length (imageOf s .entrie
 unfolding imageIn
 held-few s x H = let l = length-listAt rowAt rowEnd s (entriesStart s) (entriesCount s) in let n = H .number in let f = H .few in omega arith
 
--- the lines of one side: actors vs, clock counters va, and k, the kill lines that its waiting removes have for the entries of the other
-module _ (v : VClock) (vs : List ℕ) (few : v .len ≤ 16) (rise : Rise dots (dotsOf v)) (long : length vs ≡ 16) (actors : take (v .len) vs ≡ map (λ d. actorOf d) (dotsOf v)) where
-  abbrev Killed : List ℕ → Image → List ℕ → Image → List ℕ → Type 0
-  Killed s x t y k = k ≡ killTable (dotsOf v) (membersOf t (y .places) (y .entries)) (waitsOf s (x .starts) (x .waits)) (replicate 16 0) (replicate 1024 0)
+-- the counters of the clock that stands at byte 24
+clock-counts : (s vs : List ℕ) (m n : ℕ) (va : List ℕ) → m ≡ u32At s 24 → Counts (dotsAt s 28 m) vs n va → Counts (imageOf s .clock) vs n va
+unfolding imageIn clockIn
+clock-counts s vs m n va e c = rw e at c
 
-  lines-of : (s : List ℕ) (x : Image) (t : List ℕ) (y : Image) (k : List ℕ) → Held s x → Held t y → Killed s x t y k
-      → (j i : ℕ) (e : Entry) (rest : List Entry) → drop j (imageOf t .entries) ≡ e ∷ rest → i < v .len → getD k (16 * j + i) 0 ≡ killsOf (imageOf s .waiting) (e .member) (getD vs i 0)
-  lines-of s x t y k H G z j i e rest d h =
+-- the lines of one side: actors vs, and k, the kill lines that its waiting removes have for the entries of the other, from its clock's counters va on
+module _ (v : VClock) (vs : List ℕ) (few : v .len ≤ 16) (rise : Rise dots (dotsOf v)) (long : length vs ≡ 16) (actors : take (v .len) vs ≡ map (λ d. actorOf d) (dotsOf v)) where
+  abbrev Killed : List ℕ → Image → List ℕ → Image → List ℕ → List ℕ → Type 0
+  Killed s x t y va k = k ≡ killTable (dotsOf v) (membersOf t (y .places) (y .entries)) (waitsOf s (x .starts) (x .waits)) va (replicate 1024 0)
+
+  lines-of : (s : List ℕ) (x : Image) (t : List ℕ) (y : Image) (va k : List ℕ) → length va ≡ 16 → Held s x → Held t y → Counts (imageOf s .clock) vs (v .len) va → Killed s x t y va k
+      → (j i : ℕ) (e : Entry) (rest : List Entry) → drop j (imageOf t .entries) ≡ e ∷ rest → i < v .len → getD k (16 * j + i) 0 ≡ lineOf (imageOf s) (e .member) (getD vs i 0)
+  unfolding lineOf
+  lines-of s x t y va k wide H G c z j i e rest d h =
       let ms = map (λ e. e .member) (imageOf t .entries) in
       let r = drop-here (λ e. e .member) (imageOf t .entries) j e rest d in
       let lm : length ms ≡ length (imageOf t .entries) = simp length-map in
       let n = clock-long v vs long few actors in
       let m = held-few t y G in
       let l = r .0 in
-      let w = kill-numbers (dotsOf v) ms rise (G .rise) (omega arith) (replicate 16 0) (replicate 1024 0) refl (rw (length-replicate {A = ℕ} 1024 0) (omega arith)) (imageOf s .waiting) (H .ordered) j i (omega arith) (omega arith) in
-      let zero = getD-replicate {A = ℕ} 16 i 0 0 (omega arith) in
-      ap (λ (l : List ℕ). getD l (16 * j + i) 0) (z ∙ ap₂ (λ (a : List ℕ) (b : List Wait). killTable (dotsOf v) a b (replicate 16 0) (replicate 1024 0)) (G .members) (H .waiting))
-      ∙ omega arith
-      ∙ ap₂ (killsOf (imageOf s .waiting)) (r .1) (sym (taken-at (λ d. actorOf d) refl (dotsOf v) vs (v .len) actors i h))
+      ap (λ (l : List ℕ). getD l (16 * j + i) 0) (z ∙ ap₂ (λ (a : List ℕ) (b : List Wait). killTable (dotsOf v) a b va (replicate 1024 0)) (G .members) (H .waiting))
+      ∙ kill-numbers (dotsOf v) ms rise (G .rise) (omega arith) va (replicate 1024 0) wide (rw (length-replicate {A = ℕ} 1024 0) (omega arith)) (imageOf s .waiting) (H .ordered) j i (omega arith) (omega arith)
+      ∙ ap₂ max (c .is i h) (ap₂ (killsOf (imageOf s .waiting)) (r .1) (sym (taken-at (λ d. actorOf d) refl (dotsOf v) vs (v .len) actors i h)))
 
-  side-of : (s : List ℕ) (x : Image) (p m : ℕ) (va k : List ℕ) (es : List Entry) → Held s x → p ≡ u32At s 8 → m ≡ u32At s 24 → Counts (dotsAt s 28 m) vs (v .len) va
-      → ((j i : ℕ) (e : Entry) (rest : List Entry) → drop j es ≡ e ∷ rest → i < v .len → getD k (16 * j + i) 0 ≡ killsOf (imageOf s .waiting) (e .member) (getD vs i 0))
-      → Side (imageOf s) s p (x .entries) vs va k (v .len) es
-  unfolding imageIn clockIn
-  side-of s x p m va k es H ep em c l =
+  side-of : (s : List ℕ) (x : Image) (p : ℕ) (k : List ℕ) (es : List Entry) → Held s x → p ≡ u32At s 8 → Goes (map (λ d. actorOf d) (dotsOf v)) (imageOf s .entries)
+      → ((j i : ℕ) (e : Entry) (rest : List Entry) → drop j es ≡ e ∷ rest → i < v .len → getD k (16 * j + i) 0 ≡ lineOf (imageOf s) (e .member) (getD vs i 0))
+      → Side (imageOf s) s p (x .entries) vs k (v .len) es
+  unfolding imageIn
+  side-of s x p k es H ep g l =
       let n = H .number in
-      let g = H .edge in
+      let o = H .edge in
       record {
         rows = rw (ep, n);
         few = H .few;
-        edge = rw (ep, n) (omega arith);
+        ahead = record { edge = rw (ep, n) (omega arith); room = rw (ep, n) (H .room); goes = rw (ep, n, actors) g };
         rise = rw (ep, n) (H .rise);
-        clock = (rw em at c) .is;
         lines = l;
       }
 
-  pub ready-of : (s : List ℕ) (x : Image) (t : List ℕ) (y : Image) (p q m k : ℕ) (va vb ka kb : List ℕ) → Held s x → Held t y → p ≡ u32At s 8 → q ≡ u32At t 8
-      → m ≡ u32At s 24 → k ≡ u32At t 24 → Counts (dotsAt s 28 m) vs (v .len) va → Counts (dotsAt t 28 k) vs (v .len) vb → Killed s x t y ka → Killed t y s x kb
-      → Ready (imageOf s) (imageOf t) s p (x .entries) t q (y .entries) vs (v .len) va ka vb kb
-  ready-of s x t y p q m k va vb ka kb H G ep eq em ek ca cb za zb = record {
-    ours = side-of s x p m va ka (imageOf t .entries) H ep em ca (lines-of s x t y ka H G za);
-    theirs = side-of t y q k vb kb (imageOf s .entries) G eq ek cb (lines-of t y s x kb G H zb);
+  pub ready-of : (s : List ℕ) (x : Image) (t : List ℕ) (y : Image) (p q m k : ℕ) (va vb ka kb : List ℕ) → length va ≡ 16 → length vb ≡ 16 → Held s x → Held t y → p ≡ u32At s 8 → q ≡ u32At t 8
+      → Goes (map (λ d. actorOf d) (dotsOf v)) (imageOf s .entries) → Goes (map (λ d. actorOf d) (dotsOf v)) (imageOf t .entries)
+      → m ≡ u32At s 24 → k ≡ u32At t 24 → Counts (dotsAt s 28 m) vs (v .len) va → Counts (dotsAt t 28 k) vs (v .len) vb → Killed s x t y va ka → Killed t y s x vb kb
+      → Ready (imageOf s) (imageOf t) s p (x .entries) t q (y .entries) vs (v .len) ka kb
+  ready-of s x t y p q m k va vb ka kb wa wb H G ep eq ga gb em ek ca cb za zb = record {
+    ours = side-of s x p ka (imageOf t .entries) H ep ga (lines-of s x t y va ka wa H G (clock-counts s vs m (v .len) va em ca) za);
+    theirs = side-of t y q kb (imageOf s .entries) G eq gb (lines-of t y s x vb kb wb G H (clock-counts t vs k (v .len) vb ek cb) zb);
     few = few;
     long = omega arith;
   }

@@ -28,6 +28,7 @@ pub record Held (s : List ℕ) (x : Image) : Type 0 where
   pub number : x .entries ≡ entriesCount s
   pub few : x .entries ≤ 64
   pub edge : rowsEnd s (entriesStart s) (entriesCount s) < 65536
+  pub room : rowsEnd s (entriesStart s) (entriesCount s) ≤ length s
   pub rise : Rise entryRows (imageOf s .entries)
   pub members : membersOf s (x .places) (x .entries) ≡ map (λ e. e .member) (imageOf s .entries)
   pub waiting : waitsOf s (x .starts) (x .waits) ≡ imageOf s .waiting

@@ -1,6 +1,7 @@
 -- What the loop over the dots of two entries computes.
-use Prim.Native.Nat.{ℕ, zero, suc, _+_, _*_, max}
+use Prim.Native.Nat.{ℕ, zero, suc, _+_, _*_, _<_}
 use mathlib.Core.Path.{_≡_}
+use mathlib.Core.Logic.{_⊎_}
 use mathlib.Core.List.{List, [], _∷_}
 use lib.ListN.{length, getD}
 use lib.Seq.{sets}
@@ -27,11 +28,19 @@ keptAlong [] x y = []
 keptAlong (l ∷ ls) x y =
     cons? (dot? (l .actor) (keepOf (l .ours) (l .theirs) (said dots (l .actor) x) (said dots (l .actor) y))) (keptAlong ls (past dots (l .actor) x) (past dots (l .actor) y))
 
--- n lines from k on: va and vb have the clocks' counters, ka from ja on and kb from ib on the kill numbers
-unfoldable pub linesFrom : List ℕ → List ℕ → List ℕ → ℕ → List ℕ → List ℕ → ℕ → ℕ → ℕ → List Line
-linesFrom vs va ka ja vb kb ib k zero = []
-linesFrom vs va ka ja vb kb ib k (suc n) =
-    record { actor = getD vs k 0; ours = max (getD va k 0) (getD ka (ja + k) 0); theirs = max (getD vb k 0) (getD kb (ib + k) 0) } ∷ linesFrom vs va ka ja vb kb ib (k + 1) n
+-- n lines from k on: ka from ja on and kb from ib on have the numbers of the two sides
+unfoldable pub linesFrom : List ℕ → List ℕ → ℕ → List ℕ → ℕ → ℕ → ℕ → List Line
+linesFrom vs ka ja kb ib k zero = []
+linesFrom vs ka ja kb ib k (suc n) = record { actor = getD vs k 0; ours = getD ka (ja + k) 0; theirs = getD kb (ib + k) 0 } ∷ linesFrom vs ka ja kb ib (k + 1) n
+
+-- along n actors from k on, each dot of a clock is above the number that a line has for its actor
+unfoldable pub Above : List ℕ → List ℕ → ℕ → ℕ → ℕ → Clock → Type 0
+Above vs l from k zero x = Unit {0}
+Above vs l from k (suc n) x = ((said dots (getD vs k 0) x ≡ 0) ⊎ (getD l (from + k) 0 < said dots (getD vs k 0) x)) × Above vs l from (k + 1) n (past dots (getD vs k 0) x)
+
+-- x stays whole beside y: there is none, and each dot is above the line; or the two are the same
+abbrev pub Stays : List ℕ → List ℕ → ℕ → ℕ → Clock → Clock → Type 0
+Stays vs l from n x y = ((y ≡ []) × Above vs l from 0 n x) ⊎ (y ≡ x)
 
 -- dots written from p on; the answer is how many they are
 pub record KeptDots (out : List ℕ) (p : ℕ) (ds : Clock) (out′ : List ℕ) (r : ℕ) : Type 0 where

@@ -1,6 +1,6 @@
 // Rows in bytes, as two hands walk along them: the place of the next one, and how many are left.
 ghost use mathlib.Core.Path.{_≡_};
-ghost use Prim.Native.Nat.{_<_, min, max};
+ghost use Prim.Native.Nat.{_<_, min};
 ghost use Rattle.merging.specs.Ahead.{KeyAhead, Met};
 
 // A 32-bit number as a u64. Its callers learn that it is below 2^32.
@@ -42,11 +42,4 @@ pub(crate) fn lower(x: u64, y: u64) -> u64
     ensures { λ r. ⌜ r ≡ min x y ⌝ }
 {
     if x < y { x } else { y }
-}
-
-// The larger of two numbers.
-pub(crate) fn larger(x: u64, y: u64) -> u64
-    ensures { λ r. ⌜ r ≡ max x y ⌝ }
-{
-    if x < y { y } else { x }
 }

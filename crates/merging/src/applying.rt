@@ -2,7 +2,7 @@
 ghost use mathlib.Core.Path.{_≡_};
 ghost use mathlib.Core.Bool.{true};
 ghost use mathlib.Core.List.{map};
-ghost use Prim.Native.Nat.{_≤_};
+ghost use Prim.Native.Nat.{_<_, _≤_};
 ghost use lib.ListN.{length, take};
 ghost use Rattle.tables.specs.Table.{Normal, pick};
 ghost use Rattle.dots.specs.Dot.{actorOf, clocks};
@@ -11,7 +11,7 @@ ghost use Rattle.clocks.specs.VClock.{dotsOf, normalised};
 ghost use Rattle.replica.specs.Rules.{add as added, remove as removed};
 ghost use Rattle.replica.specs.Limits.{full};
 ghost use Rattle.layout.specs.Image.{imageOf};
-ghost use Rattle.changing.specs.Kept.{keptEntries};
+ghost use Rattle.changing.specs.Kept.{Along, keptEntries};
 ghost use Rattle.changing.specs.KeptWaits.{keptWaits};
 ghost use Rattle.results.specs.Call.{Meets};
 ghost use Rattle.image.specs.Image.{checkImage};
@@ -110,7 +110,7 @@ fn changed(
     settled: VClock,
     out: &mut [u8],
 ) -> Written
-    requires { ⌜ (x ≡ checkImage (now img)) × (x .good ≡ true) × SideReady c m n × (v .len ≤ 16) × Normal clocks (dotsOf v) × (l ≤ 1) × (settled .len ≤ 16) × Normal clocks (dotsOf settled) ⌝ }
+    requires { ⌜ (x ≡ checkImage (now img)) × (x .good ≡ true) × SideReady c m n × (v .len ≤ 16) × Normal clocks (dotsOf v) × (l ≤ 1) × (settled .len ≤ 16) × Normal clocks (dotsOf settled) × Along (dotsOf v) (imageOf (now img) .clock) × (0 < n → Along (dotsOf v) (dotsOf c)) ⌝ }
     ensures { λ r. ⌜ FinishedOf (keptEntries (map (λ d. actorOf d) (dotsOf v)) (imageOf (now (img .entry))) (sideOf c m n)) (keptWaits (dotsOf settled) (imageOf (now (img .entry)) .waiting) (take l (sideOf c m n .waiting))) v (now (out .entry)) r (now (out .exit)) ⌝ }
 {
     let mut side = [0u8; 1584];

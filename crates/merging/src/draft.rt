@@ -13,7 +13,7 @@ ghost use Rattle.layout.specs.Rows.{waitsAt};
 ghost use Rattle.layout.specs.Image.{imageOf, waitsStart};
 ghost use Rattle.changing.specs.Kept.{keptEntries};
 ghost use Rattle.changing.specs.KeptWaits.{keptWaits};
-ghost use Rattle.merging.specs.Rowing.{WroteRows};
+ghost use Rattle.merging.specs.Rowing.{Goes, WroteRows};
 ghost use Rattle.merging.specs.Waiting.{WaitsReady, WroteWaits};
 ghost use Rattle.merging.specs.Draft.{Counts, Held, DraftOf};
 use crate::ahead::index;
@@ -104,7 +104,7 @@ pub(crate) fn keep_entries(
     out: &mut [u8],
     at: usize,
 ) -> Rows
-    requires { ⌜ Held (now a) x × Held (now b) y × (v .len ≤ 16) × Rise dots (dotsOf v) × (at < 65536) ⌝ }
+    requires { ⌜ Held (now a) x × Held (now b) y × (v .len ≤ 16) × Rise dots (dotsOf v) × (at < 65536) × Goes (map (λ d. actorOf d) (dotsOf v)) (imageOf (now a) .entries) × Goes (map (λ d. actorOf d) (dotsOf v)) (imageOf (now b) .entries) ⌝ }
     ensures { λ r. ⌜ WroteRows (now (out .entry)) at (keptEntries (map (λ d. actorOf d) (dotsOf v)) (imageOf (now (a .entry))) (imageOf (now (b .entry)))) (now (out .exit)) (r .n) (r .at) ⌝ }
 {
     let n = v.len;
@@ -116,9 +116,9 @@ pub(crate) fn keep_entries(
     let xw = x.starts;
     let yw = y.starts;
     let mut ka = [0u64; 1024];
-    kills::kill_lines(b, ys, y.entries, a, xw, x.waits, v, [0u64; 16], &mut ka);
+    kills::kill_lines(b, ys, y.entries, a, xw, x.waits, v, va, &mut ka);
     let mut kb = [0u64; 1024];
-    kills::kill_lines(a, xs, x.entries, b, yw, y.waits, v, [0u64; 16], &mut kb);
+    kills::kill_lines(a, xs, x.entries, b, yw, y.waits, v, vb, &mut kb);
     merge_entries(
         a,
         index(fields::u32_at(a, 8)),
@@ -128,9 +128,7 @@ pub(crate) fn keep_entries(
         y.entries,
         &actors,
         n,
-        &va,
         &ka,
-        &vb,
         &kb,
         out,
         at,
@@ -171,7 +169,7 @@ pub(crate) fn drafted(
     out: &mut [u8],
     start: usize,
 ) -> Draft
-    requires { ⌜ Held (now a) x × Held (now b) y × WaitsReady (dotsOf settled) (now a) (waitsStart (now a)) (x .waits) (now b) (waitsStart (now b)) l × (v .len ≤ 16) × (settled .len ≤ 16) × Rise dots (dotsOf v) × (start ≤ 220) ⌝ }
+    requires { ⌜ Held (now a) x × Held (now b) y × WaitsReady (dotsOf settled) (now a) (waitsStart (now a)) (x .waits) (now b) (waitsStart (now b)) l × (v .len ≤ 16) × (settled .len ≤ 16) × Rise dots (dotsOf v) × (start ≤ 220) × Goes (map (λ d. actorOf d) (dotsOf v)) (imageOf (now a) .entries) × Goes (map (λ d. actorOf d) (dotsOf v)) (imageOf (now b) .entries) ⌝ }
     ensures { λ r. ⌜ DraftOf (keptEntries (map (λ d. actorOf d) (dotsOf v)) (imageOf (now (a .entry))) (imageOf (now (b .entry)))) (keptWaits (dotsOf settled) (waitsAt (now (a .entry)) (waitsStart (now (a .entry))) (x .waits)) (waitsAt (now (b .entry)) (waitsStart (now (b .entry))) l)) start r (now (out .entry)) (now (out .exit)) ⌝ }
 {
     let e = keep_entries(a, x, b, y, v, out, start);

@@ -1,22 +1,22 @@
 // The entries of two images, merged along the actors of the merged clock.
 ghost use mathlib.Core.Path.{_≡_};
+ghost use mathlib.Core.Bool.{true};
+ghost use mathlib.Core.Logic.{_⊎_};
 ghost use mathlib.Core.List.{[], _++_};
-ghost use Prim.Native.Nat.{_+_, _*_, _<_, _≤_, min};
+ghost use Prim.Native.Nat.{ℕ, _+_, _*_, _<_, _≤_, min};
 ghost use lib.Dec.{eqb};
-ghost use lib.ListN.{length, take};
+ghost use lib.ListN.{length, take, getD};
 ghost use lib.Seq.{sets};
 ghost use Rattle.tables.specs.Table.{pick};
 ghost use Rattle.layout.specs.Fields.{u32At, u64At, le32};
 ghost use Rattle.layout.specs.Clock.{dotsAt, encodeDots};
-ghost use Rattle.layout.specs.Rows.{rowsEnd};
 ghost use Rattle.layout.specs.Image.{imageOf};
-ghost use Rattle.merging.specs.Ahead.{keyAhead};
-ghost use Rattle.changing.specs.Kept.{keepOf, keptEntries};
-ghost use Rattle.merging.specs.Keeping.{dotList, KeptDot, KeptDots, linesFrom, keptAlong};
-ghost use Rattle.merging.specs.Rowing.{Ready, MergedRow, WroteRows};
+ghost use Rattle.changing.specs.Kept.{keepOf, keptEntries, metAlong};
+ghost use Rattle.merging.specs.Ahead.{keyAhead, Met};
+ghost use Rattle.merging.specs.Keeping.{dotList, KeptDot, KeptDots, linesFrom, keptAlong, Above, Stays};
+ghost use Rattle.merging.specs.Rowing.{RowsAhead, Ready, MergedRow, WroteRows};
 use crate::ahead::index;
 use crate::ahead::key_at;
-use crate::ahead::larger;
 use crate::ahead::lower;
 use crate::ahead::meets;
 
@@ -54,6 +54,41 @@ pub(crate) fn counter_at(s: &[u8], at: usize, met: usize) -> u64
     }
 }
 
+// The 32-bit number at a place that lies inside: of a part of known length, nothing is tested when the code runs.
+fn u32_in(s: &[u8], at: usize) -> u32
+    requires { ⌜ at + 4 ≤ length (now s) ⌝ }
+    ensures { λ r. ⌜ r ≡ u32At (now (s .entry)) at ⌝ }
+{
+    fields::u32_at(&s[at..at + 4], 0)
+}
+
+// The 64-bit number there.
+fn u64_in(s: &[u8], at: usize) -> u64
+    requires { ⌜ at + 8 ≤ length (now s) ⌝ }
+    ensures { λ r. ⌜ r ≡ u64At (now (s .entry)) at ⌝ }
+{
+    fields::u64_at(&s[at..at + 8], 0)
+}
+
+// 1 where the next of some dots has the actor, and 0 where it hasn't or none is left.
+fn met_in(s: &[u8], at: usize, left: usize, actor: u32) -> usize
+    requires { ⌜ at + 12 * left ≤ length (now s) ⌝ }
+    ensures { λ r. ⌜ Met (now (s .entry)) at left actor r ⌝ }
+{
+    if left == 0 {
+        return 0;
+    }
+    if u32_in(s, at) == actor { 1 } else { 0 }
+}
+
+// The counter of that dot, where it is met; 0 where not.
+fn counter_in(s: &[u8], at: usize, met: usize) -> u64
+    requires { ⌜ (0 < met → at + 12 ≤ length (now s)) ⌝ }
+    ensures { λ r. ⌜ r ≡ pick (eqb met 0) 0 (u64At (now (s .entry)) (at + 4)) ⌝ }
+{
+    if met == 0 { 0 } else { u64_in(s, at + 4) }
+}
+
 // Writes a dot, where its counter isn't 0, and returns how many dots that are.
 fn put_dot(out: &mut [u8], p: usize, actor: u32, counter: u64) -> usize
     requires { ⌜ p < 1099511627776 ⌝ }
@@ -78,12 +113,12 @@ fn keep_dot(
     p: usize,
     k: Places,
 ) -> Places
-    requires { ⌜ (k .x + 12 * k .xs < 1099511627776) × (k .y + 12 * k .ys < 1099511627776) × (p + 12 * k .n < 1099511627776) ⌝ }
+    requires { ⌜ (k .x + 12 * k .xs ≤ length (now s)) × (k .y + 12 * k .ys ≤ length (now t)) × (p + 12 * k .n < 1099511627776) ⌝ }
     ensures { λ r. ⌜ KeptDot (now (s .entry)) (now (t .entry)) actor la lb (now (out .entry)) p k (now (out .exit)) r ⌝ }
 {
-    let i = meets(s, k.x, k.xs, actor);
-    let j = meets(t, k.y, k.ys, actor);
-    let w = keep(la, lb, counter_at(s, k.x, i), counter_at(t, k.y, j));
+    let i = met_in(s, k.x, k.xs, actor);
+    let j = met_in(t, k.y, k.ys, actor);
+    let w = keep(la, lb, counter_in(s, k.x, i), counter_in(t, k.y, j));
     let c = put_dot(out, p + 12 * k.n, actor, w);
     Places {
         x: k.x + 12 * i,
@@ -94,8 +129,141 @@ fn keep_dot(
     }
 }
 
-// The dots that two entries keep, written from p on: x has xs dots in s, y has ys in t. For each of the n actors, va and vb have the counters of
-// the two clocks, ka[ja..] and kb[ib..] the kill numbers. Returns how many dots are kept.
+// The dots that two entries keep, judged one actor after the other and written from p on.
+fn judged(
+    s: &[u8],
+    x: usize,
+    xs: usize,
+    t: &[u8],
+    y: usize,
+    ys: usize,
+    actors: &[u32; 16],
+    n: usize,
+    ka: &[u64; 1024],
+    ja: usize,
+    kb: &[u64; 1024],
+    ib: usize,
+    out: &mut [u8],
+    p: usize,
+) -> usize
+    requires { ⌜ (x + 12 * xs ≤ length (now s)) × (y + 12 * ys ≤ length (now t)) × (p < 1099511627) × (n ≤ 16) × (ja + n ≤ 1024) × (ib + n ≤ 1024) ⌝ }
+    ensures { λ r. ⌜ (r ≤ n) × KeptDots (now (out .entry)) p (keptAlong (linesFrom (now (actors .entry)) (now (ka .entry)) ja (now (kb .entry)) ib 0 n) (dotsAt (now (s .entry)) x xs) (dotsAt (now (t .entry)) y ys)) (now (out .exit)) r ⌝ }
+{
+    let mut k = Places { x, xs, y, ys, n: 0 };
+    let mut i: usize = 0;
+    while i < n {
+        k = keep_dot(s, t, actors[i], ka[ja + i], kb[ib + i], out, p, k);
+        i += 1;
+    }
+    k.n
+}
+
+// Whether a line has only zeros.
+fn clear(line: &[u64; 1024], from: usize) -> bool
+    requires { ⌜ from + 16 ≤ 1024 ⌝ }
+    ensures { λ r. ⌜ (r ≡ true → (i : ℕ) → i < 16 → getD (now (line .entry)) (from + i) 0 ≡ 0) ⌝ }
+{
+    let mut any: u64 = 0;
+    let mut i: usize = 0;
+    while i < 16 {
+        any = any | line[from + i];
+        i += 1;
+    }
+    any == 0
+}
+
+// Whether a counter, if there is one, is above a line.
+fn passes(line: u64, counter: u64) -> bool
+    ensures { λ r. ⌜ (r ≡ true → (counter ≡ 0) ⊎ (line < counter)) ⌝ }
+{
+    if counter == 0 {
+        return true;
+    }
+    line < counter
+}
+
+// Whether each of the xs dots at x is above what the line has for its actor.
+fn above(
+    s: &[u8],
+    x: usize,
+    xs: usize,
+    actors: &[u32; 16],
+    n: usize,
+    line: &[u64; 1024],
+    from: usize,
+) -> bool
+    requires { ⌜ (x + 12 * xs ≤ length (now s)) × (n ≤ 16) × (from + n ≤ 1024) ⌝ }
+    ensures { λ r. ⌜ (r ≡ true → Above (now (actors .entry)) (now (line .entry)) from 0 n (dotsAt (now (s .entry)) x xs)) ⌝ }
+{
+    let mut at = x;
+    let mut left = xs;
+    let mut i: usize = 0;
+    while i < n {
+        let met = met_in(s, at, left, actors[i]);
+        if passes(line[from + i], counter_in(s, at, met)) {
+            at += 12 * met;
+            left -= met;
+            i += 1;
+        } else {
+            return false;
+        }
+    }
+    true
+}
+
+// Whether the n dots from two places on are the same.
+fn same(s: &[u8], from: usize, t: &[u8], other: usize, n: usize) -> bool
+    requires { ⌜ (from + 12 * n ≤ length (now s)) × (other + 12 * n ≤ length (now t)) ⌝ }
+    ensures { λ r. ⌜ (r ≡ true → dotsAt (now (t .entry)) other n ≡ dotsAt (now (s .entry)) from n) ⌝ }
+{
+    let mut x = from;
+    let mut y = other;
+    let mut left = n;
+    while 0 < left {
+        if u32_in(s, x) != u32_in(t, y) {
+            return false;
+        }
+        if u64_in(s, x + 4) != u64_in(t, y + 4) {
+            return false;
+        }
+        x += 12;
+        y += 12;
+        left -= 1;
+    }
+    true
+}
+
+// Whether the entry of xs dots at x stays whole beside the one of ys dots at y: there is none, and each dot is above the other side's line; or the
+// two are the same.
+fn whole(
+    s: &[u8],
+    x: usize,
+    xs: usize,
+    t: &[u8],
+    y: usize,
+    ys: usize,
+    actors: &[u32; 16],
+    n: usize,
+    line: &[u64; 1024],
+    from: usize,
+) -> bool
+    requires { ⌜ (x + 12 * xs ≤ length (now s)) × (y + 12 * ys ≤ length (now t)) × (n ≤ 16) × (from + 16 ≤ 1024) ⌝ }
+    ensures { λ r. ⌜ (r ≡ true → Stays (now (actors .entry)) (now (line .entry)) from n (dotsAt (now (s .entry)) x xs) (dotsAt (now (t .entry)) y ys)) ⌝ }
+{
+    if ys == 0 {
+        if clear(line, from) {
+            return true;
+        }
+        return above(s, x, xs, actors, n, line, from);
+    }
+    if xs == ys {
+        return same(s, x, t, y, ys);
+    }
+    false
+}
+
+// The dots that two entries keep, written from p on: x has xs dots in s, y has ys in t. For each of the n actors, ka[ja..] and kb[ib..] have the
+// lines of the two sides. Returns how many dots are kept.
 fn kept(
     s: &[u8],
     x: usize,
@@ -105,34 +273,25 @@ fn kept(
     ys: usize,
     actors: &[u32; 16],
     n: usize,
-    va: &[u64; 16],
     ka: &[u64; 1024],
     ja: usize,
-    vb: &[u64; 16],
     kb: &[u64; 1024],
     ib: usize,
     out: &mut [u8],
     p: usize,
 ) -> usize
-    requires { ⌜ (x + 12 * xs < 1099511627776) × (y + 12 * ys < 1099511627776) × (p < 1099511627) × (n ≤ 16) × (ja + n ≤ 1024) × (ib + n ≤ 1024) ⌝ }
-    ensures { λ r. ⌜ (r ≤ n) × KeptDots (now (out .entry)) p (keptAlong (linesFrom (now (actors .entry)) (now (va .entry)) (now (ka .entry)) ja (now (vb .entry)) (now (kb .entry)) ib 0 n) (dotsAt (now (s .entry)) x xs) (dotsAt (now (t .entry)) y ys)) (now (out .exit)) r ⌝ }
+    requires { ⌜ (x + 12 * xs ≤ length (now s)) × (y + 12 * ys ≤ length (now t)) × (p < 1099511627) × (n ≤ 16) × (ja + 16 ≤ 1024) × (ib + 16 ≤ 1024) × (metAlong (take n (now actors)) (dotsAt (now s) x xs) ≡ dotsAt (now s) x xs) × (metAlong (take n (now actors)) (dotsAt (now t) y ys) ≡ dotsAt (now t) y ys) × (n ≤ length (now actors)) ⌝ }
+    ensures { λ r. ⌜ (r ≤ n) × KeptDots (now (out .entry)) p (keptAlong (linesFrom (now (actors .entry)) (now (ka .entry)) ja (now (kb .entry)) ib 0 n) (dotsAt (now (s .entry)) x xs) (dotsAt (now (t .entry)) y ys)) (now (out .exit)) r ⌝ }
 {
-    let mut k = Places { x, xs, y, ys, n: 0 };
-    let mut i: usize = 0;
-    while i < n {
-        k = keep_dot(
-            s,
-            t,
-            actors[i],
-            larger(va[i], ka[ja + i]),
-            larger(vb[i], kb[ib + i]),
-            out,
-            p,
-            k,
-        );
-        i += 1;
+    if whole(s, x, xs, t, y, ys, actors, n, kb, ib) {
+        results::copy(s, x, x + 12 * xs, out, p);
+        return xs;
     }
-    k.n
+    if whole(t, y, ys, s, x, xs, actors, n, ka, ja) {
+        results::copy(t, y, y + 12 * ys, out, p);
+        return ys;
+    }
+    judged(s, x, xs, t, y, ys, actors, n, ka, ja, kb, ib, out, p)
 }
 
 // Where the walk along the entries of two images stands: the next row of each, how many are left, how many went before; the place in the output,
@@ -194,47 +353,30 @@ fn merge_row(
     t: &[u8],
     actors: &[u32; 16],
     n: usize,
-    va: &[u64; 16],
     ka: &[u64; 1024],
-    vb: &[u64; 16],
     kb: &[u64; 1024],
     out: &mut [u8],
     w: Rows,
 ) -> Rows
-    requires { ⌜ (0 < w .m + w .k) × (rowsEnd (now s) (w .p) (w .m) < 4294967296) × (rowsEnd (now t) (w .q) (w .k) < 4294967296) × (w .at < 1000000000) × (w .i + w .m ≤ 64) × (w .j + w .k ≤ 64) × (w .n ≤ 128) × (n ≤ 16) ⌝ }
-    ensures { λ r. ⌜ MergedRow (now (s .entry)) (now (t .entry)) (now (actors .entry)) n (now (va .entry)) (now (ka .entry)) (now (vb .entry)) (now (kb .entry)) (min (keyAhead (now (s .entry)) (w .p) (w .m)) (keyAhead (now (t .entry)) (w .q) (w .k))) (now (out .entry)) w (now (out .exit)) r ⌝ }
+    requires { ⌜ (0 < w .m + w .k) × RowsAhead (now s) (w .p) (w .m) (take n (now actors)) × RowsAhead (now t) (w .q) (w .k) (take n (now actors)) × (w .at < 1000000000) × (w .i + w .m ≤ 64) × (w .j + w .k ≤ 64) × (w .n ≤ 128) × (n ≤ 16) × (n ≤ length (now actors)) ⌝ }
+    ensures { λ r. ⌜ MergedRow (now (s .entry)) (now (t .entry)) (now (actors .entry)) n (now (ka .entry)) (now (kb .entry)) (min (keyAhead (now (s .entry)) (w .p) (w .m)) (keyAhead (now (t .entry)) (w .q) (w .k))) (now (out .entry)) w (now (out .exit)) r ⌝ }
 {
     let member = next_member(s, w.p, w.m, t, w.q, w.k);
     let i = meets(s, w.p, w.m, member);
     let j = meets(t, w.q, w.k, member);
     let xs = dots_of(s, w.p, i);
     let ys = dots_of(t, w.q, j);
+    let x = w.p + 8 * i;
+    let y = w.q + 8 * j;
     let ja = 16 * (w.j % 64);
     let ib = 16 * (w.i % 64);
-    let c = kept(
-        s,
-        w.p + 8,
-        xs,
-        t,
-        w.q + 8,
-        ys,
-        actors,
-        n,
-        va,
-        ka,
-        ja,
-        vb,
-        kb,
-        ib,
-        out,
-        w.at + 8,
-    );
+    let c = kept(s, x, xs, t, y, ys, actors, n, ka, ja, kb, ib, out, w.at + 8);
     let long = put_head(out, w.at, member, c);
     Rows {
-        p: w.p + 8 * i + 12 * xs,
+        p: x + 12 * xs,
         m: w.m - i,
         i: w.i + i,
-        q: w.q + 8 * j + 12 * ys,
+        q: y + 12 * ys,
         k: w.k - j,
         j: w.j + j,
         at: w.at + long,
@@ -252,14 +394,12 @@ pub(crate) fn merge_entries(
     k: usize,
     actors: &[u32; 16],
     n: usize,
-    va: &[u64; 16],
     ka: &[u64; 1024],
-    vb: &[u64; 16],
     kb: &[u64; 1024],
     out: &mut [u8],
     at: usize,
 ) -> Rows
-    requires { ⌜ Ready (imageOf (now s)) (imageOf (now t)) (now s) p m (now t) q k (now actors) n (now va) (now ka) (now vb) (now kb) × (at < 65536) ⌝ }
+    requires { ⌜ Ready (imageOf (now s)) (imageOf (now t)) (now s) p m (now t) q k (now actors) n (now ka) (now kb) × (at < 65536) ⌝ }
     ensures { λ r. ⌜ WroteRows (now (out .entry)) at (keptEntries (take n (now (actors .entry))) (imageOf (now (s .entry))) (imageOf (now (t .entry)))) (now (out .exit)) (r .n) (r .at) ⌝ }
 {
     let mut w = Rows {
@@ -273,7 +413,7 @@ pub(crate) fn merge_entries(
         n: 0,
     };
     while w.m + w.k > 0 {
-        w = merge_row(s, t, actors, n, va, ka, vb, kb, out, w);
+        w = merge_row(s, t, actors, n, ka, kb, out, w);
     }
     w
 }

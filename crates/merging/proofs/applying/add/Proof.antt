@@ -1,5 +1,5 @@
 use mathlib.Core.Path.{refl}
-use Rattle.merging.proofs.Applies.{empty-clock, add-covered, add-crowded, add-ready, clock-added, add-meets}
+use Rattle.merging.proofs.Applies.{empty-clock, add-covered, add-crowded, add-ready, clock-added, added-along, add-meets}
 use borrow.Author.Needs.{needs}
 use Rattle.merging.proofs.applying.add.Statement.{statement}
 use Rattle.merging.proofs.applying.add.Tie as tie
@@ -21,7 +21,8 @@ changed-requires : tie.Need-changed-requires
 changed-requires c κs =
     let b = c .before .before .before .before .before .before .before .before .before .before .before .before .before .before .before in
     let o = clock-added _ _ (b .pre .0) (b .pre .1) _ (b .pre .2) _ (c .before .before .members-of .ensures) (b .args .d) _ (c .before .before .before .before .before .before .before .before .before .before .get .ensures) (c .before .before .before .before .before .before .before .if1 .left) _ (c .before .before .before .before .before .before .apply .ensures) _ (c .before .from-dot .ensures) (c .before .before .before .before .if2 .left) in
-    (b .pre .0, b .pre .1, add-ready _ _ (b .pre .0) (b .pre .1) _ (b .pre .2) _ (c .before .before .members-of .ensures) (b .args .d) _ (c .before .before .before .before .before .before .before .before .before .before .get .ensures) (c .before .before .before .before .before .before .before .if1 .left) _ (c .before .before .before .before .before .before .apply .ensures) _ (c .before .from-dot .ensures), o .few-ok, o .normal-ok, search needs, o .few-ok, o .normal-ok)
+    let along = added-along _ _ (b .pre .0) (b .pre .1) _ (b .pre .2) _ (c .before .before .members-of .ensures) (b .args .d) _ (c .before .before .before .before .before .before .before .before .before .before .get .ensures) (c .before .before .before .before .before .before .before .if1 .left) _ (c .before .before .before .before .before .before .apply .ensures) _ (c .before .from-dot .ensures) (c .before .before .before .before .if2 .left) in
+    (b .pre .0, b .pre .1, add-ready _ _ (b .pre .0) (b .pre .1) _ (b .pre .2) _ (c .before .before .members-of .ensures) (b .args .d) _ (c .before .before .before .before .before .before .before .before .before .before .get .ensures) (c .before .before .before .before .before .before .before .if1 .left) _ (c .before .before .before .before .before .before .apply .ensures) _ (c .before .from-dot .ensures), o .few-ok, o .normal-ok, search needs, o .few-ok, o .normal-ok, along .0, λ h. along .1)
 
 returns-3 : tie.Need-returns-3
 returns-3 c =

@@ -24,7 +24,7 @@ drafted-requires c κs =
     let b = c .before .before .before .before .before .before .before .before .before .before in
     let a = b .args in
     let pre = b .pre in
-    draft-ready _ _ (pre .0) (pre .1) (a .c) (a .m) (a .n) (pre .2) (c .before .before .before .before .before .before .put-side .ensures .2) _ (c .before .before .before .before .before .before .put-side .ensures .1) (a .l) (pre .5) _ (side-taken _ _ (pre .0) (pre .1) (a .c) (a .m) (a .n) (pre .2) (c .before .before .before .before .before .before .put-side .ensures .2) _ (c .before .before .before .before .before .before .put-side .ensures .0)) (a .v) (a .settled) (pre .3) (pre .4) (pre .6) (pre .7)
+    draft-ready _ _ (pre .0) (pre .1) (a .c) (a .m) (a .n) (pre .2) (c .before .before .before .before .before .before .put-side .ensures .2) _ (c .before .before .before .before .before .before .put-side .ensures .1) (a .l) (pre .5) _ (side-taken _ _ (pre .0) (pre .1) (a .c) (a .m) (a .n) (pre .2) (c .before .before .before .before .before .before .put-side .ensures .2) _ (c .before .before .before .before .before .before .put-side .ensures .0)) (a .v) (a .settled) (pre .3) (pre .4) (pre .6) (pre .7) (pre .8) (pre .9)
 
 returns : tie.Need-returns
 returns c =

@@ -6,7 +6,7 @@ use Rattle.merging.proofs.draft.drafted.Statement.{statement}
 use Rattle.merging.proofs.draft.drafted.Tie as tie
 
 keep-entries-requires : tie.Need-keep-entries-requires
-keep-entries-requires c κs = let p = c .before .before .before .before .pre in let s = p .6 in (p .0, p .1, p .3, p .5, omega arith)
+keep-entries-requires c κs = let p = c .before .before .before .before .pre in let s = p .6 in (p .0, p .1, p .3, p .5, omega arith, p .7, p .8)
 
 keep-waits-requires : tie.Need-keep-waits-requires
 keep-waits-requires c κs =

@@ -1,40 +1,31 @@
-use Prim.Native.Nat.{_-_, _+_, _*_}
 use native.Mathlib.Omega.{arith}
-use Rattle.layout.specs.Clock.{dotsAt}
-use Rattle.merging.specs.Keeping.{linesFrom, keptAlong}
-use Rattle.merging.proofs.KeepSteps.{Keeping, keep-begin, keep-again, keep-end}
+use lib.ListN.{length-take}
+use Rattle.layout.specs.Fields.{Bytes}
+use Rattle.merging.proofs.WholeSteps.{stays-left, stays-right, whole-kept}
 use borrow.Author.Needs.{needs}
 use Rattle.merging.proofs.entries.kept.Statement.{statement}
 use Rattle.merging.proofs.entries.kept.Tie as tie
 
-abbrev Inv-loop : tie.InvT-loop
-Inv-loop s x xs t y ys actors n va ka ja vb kb ib out₀ p k₀ i₀ out k i = Keeping s t actors va ka ja vb kb ib n p (x + 12 * xs) (y + 12 * ys) out₀ (keptAlong (linesFrom actors va ka ja vb kb ib 0 n) (dotsAt s x xs) (dotsAt t y ys)) out k i
+returns : tie.Need-returns
+returns c =
+    let a = c .before .before .before .before .before .before .before .before .before .args in let p = c .before .before .before .before .before .before .before .before .before .pre in
+    let long = p .8 in
+    let b : Bytes (a .s .now) = λ i. omega (arith, c .before .before .before .before .before .before .before .before .shared-slice-known .given i) in
+    whole-kept _ _ (simp length-take (omega arith)) _ _ _ b (p .0) (p .6) _ _ _ _ (stays-left _ _ _ _ _ _ (omega arith) _ _ (p .6) (c .before .before .before .before .before .whole .ensures (c .before .before .before .before .if1 .taken))) (c .before .before .copy .ensures)
 
-abbrev μ-loop : tie.MeasureT-loop
-μ-loop s x xs t y ys actors n va ka ja vb kb ib out₀ p k₀ i₀ out k i = n - i
+returns-2 : tie.Need-returns-2
+returns-2 c =
+    let a = c .before .before .before .before .before .before .before .before .before .before .before .args in let p = c .before .before .before .before .before .before .before .before .before .before .before .pre in
+    let long = p .8 in
+    let b : Bytes (a .t .now) = λ i. omega (arith, c .before .before .before .before .before .before .before .before .before .shared-slice-known2 .given i) in
+    whole-kept _ _ (simp length-take (omega arith)) _ _ _ b (p .1) (p .7) _ _ _ _ (stays-right _ _ _ _ _ _ (omega arith) _ _ (p .7) (c .before .before .before .before .before .whole2 .ensures (c .before .before .before .before .if2 .taken))) (c .before .before .copy2 .ensures)
 
-loop-holds : tie.Need-loop-holds Inv-loop μ-loop
-loop-holds c = keep-begin _ _ _ _ _ _ _ _ _ _ _ _ _ _ _ _
-
-keep-dot-requires : tie.Need-keep-dot-requires Inv-loop μ-loop
-keep-dot-requires c κs = let z = c .before .before .before .before .before .before .before .before .before .loop .inv in let pre = c .before .before .before .before .before .before .before .before .before .before .before .before .before .pre in let t = c .before .before .before .before .before .before .before .before .loop-test .taken in (omega arith, omega arith, omega arith)
-
-loop-less : tie.Need-loop-less Inv-loop μ-loop
-loop-less c = let t = c .before .before .before .before .before .before .before .before .before .before .before .loop-test .taken in omega arith
-
-loop-again : tie.Need-loop-again Inv-loop μ-loop
-loop-again c = keep-again (c .before .before .before .before .before .before .before .before .before .before .before .before .loop .inv) (c .before .before .before .before .before .before .before .before .before .before .before .loop-test .taken) _ _ (rw (c .before .before .before .before .before .before .before .larger .ensures, c .before .before .before .before .larger2 .ensures) at (c .before .before .keep-dot .ensures))
-
-same-length : tie.Need-same-length Inv-loop μ-loop
-same-length c = c .before .loop .inv .size
-
-returns : tie.Need-returns Inv-loop μ-loop
-returns c = let z = c .before .loop .inv in (omega arith, keep-end z (c .loop-test .left))
+judged-requires : tie.Need-judged-requires
+judged-requires c κs = let p = c .before .before .before .before .before .before .before .before .pre in (p .0, p .1, p .2, p .3, omega arith, omega arith)
 
 pub kept-spec : {M : Type 1} → statement M
 kept-spec =
     tie.close
-    (tie.spec Inv-loop μ-loop loop-holds (λ c. search needs) (λ c. search needs) (λ c. search needs)
-    (λ c. search needs) (λ c. search needs) (λ c. search needs) (λ c. search needs) (λ c κs. search needs)
-    (λ c. search needs) (λ c. search needs) (λ c. search needs) (λ c. search needs) (λ c. search needs)
-    (λ c κs. search needs) keep-dot-requires (λ c. search needs) loop-less loop-again same-length returns)
+    (tie.spec (λ c κs. search needs) (λ c. search needs) (λ c. search needs) (λ c κs. search needs) (λ c. search needs) returns
+    (λ c κs. search needs) (λ c. search needs) (λ c. search needs) (λ c κs. search needs) (λ c. search needs) returns-2
+    judged-requires (λ c. search needs) (λ c. search needs))
