@@ -1,14 +1,14 @@
 -- One turn of each loop, in the code's terms.
 use Prim.Native.Nat.{ℕ, zero, suc, _+_, _-_, _*_, _≤_, _<_, max, min}
-use mathlib.Core.Path.{_≡_, refl, sym, ap, _∙_}
+use mathlib.Core.Path.{_≡_, refl, sym, ap, ap₂, _∙_}
 use mathlib.Core.Bool.{Bool, true, false}
 use mathlib.Core.List.{List, [], _∷_, map}
 use native.Mathlib.Omega.{arith}
-use native.Mathlib.Nat.{add-zero, zero-add}
+use native.Mathlib.Nat.{add-zero, zero-add, add-assoc}
 use native.Mathlib.Numerals.{add-one}
 use lib.Dec.{eqb}
-use lib.ListN.{length, take, drop, set, getD, drop-of-length-le, List·getD-map}
-use lib.Seq.{sets, slice, sets-eq, length-sets, take-all, take-at}
+use lib.ListN.{length, take, drop, set, getD, replicate, drop-of-length-le, List·getD-map, List·getD-eq-default}
+use lib.Seq.{getD-set-same, getD-set-other, sets, slice, sets-eq, length-sets, take-all, take-at}
 use borrow.Author.Tests.{lt-ltb, le-ltb, eq-eqb, ne-eqb}
 use Rattle.tables.specs.Stores.{sets-append}
 use Rattle.tables.specs.Table.{pick}
@@ -24,8 +24,56 @@ use Rattle.layout.specs.Rows.{membersAt}
 use Rattle.fields.specs.Read.{clockRead}
 use Rattle.fields.proofs.Steps.{list-step, list-end}
 use Rattle.kills.specs.Lines.{reach, along, numbers, lineOf, raiseFrom, raised, topFrom, spread, killLines, waitRead}
-use Rattle.kills.specs.Posts.{UpTo, Founded}
+use Rattle.kills.specs.Posts.{Filled, Padded, UpTo, Founded}
 use Rattle.kills.specs.Laws.{raise-grows, length-raised, spread-front}
+
+-- ---- a padded copy
+
+pub filled-turn : (t : List ℕ) (from i : ℕ) (copy : List ℕ) → i < length copy → Filled t from i copy → Filled t from (i + 1) (set copy i (getD t (from + i) 0))
+filled-turn t from i copy h f = record {
+  low = λ j l. by-lt j i (λ k. getD-set-other copy i j (getD t (from + i) 0) 0 (λ e. omega arith) ∙ f .low j k) (λ k. let e : j ≡ i = omega arith in rw e (getD-set-same copy i (getD t (from + i) 0) 0 h));
+  high = λ j l. getD-set-other copy i j (getD t (from + i) 0) 0 (λ e. omega arith) ∙ f .high j (omega arith);
+}
+
+pub filled-start : (t : List ℕ) (from n : ℕ) → Filled t from 0 (replicate n 0)
+filled-start t from n = record { low = λ j l. absurd (omega arith); high = λ j l. zeros n j }
+  where
+    zeros : (n j : ℕ) → _≡_ {A = ℕ} (getD (replicate n 0) j 0) 0
+    zeros zero j = refl
+    zeros (suc n) zero = refl
+    zeros (suc n) (suc j) = zeros n j
+
+past : (t : List ℕ) (j : ℕ) → length t ≤ j → getD t j 0 ≡ 0
+past t j h = List·getD-eq-default t 0 h
+
+pub filled-short : (t : List ℕ) (from i : ℕ) (copy : List ℕ) → length t ≤ from + i → Filled t from i copy → Padded t from copy
+filled-short t from i copy h f = record { same = λ j l. by-lt j i (λ k. f .low j k) (λ k. f .high j k ∙ sym (past t (from + j) (omega arith))) }
+
+module _ (t : List ℕ) (from : ℕ) (copy : List ℕ) (same : (j : ℕ) → j < 192 → getD copy j 0 ≡ getD t (from + j) 0) where
+  padded-u32 : (k : ℕ) → k + 4 ≤ 192 → u32At copy k ≡ u32At t (from + k)
+  unfolding u32At
+  padded-u32 k h = rw (same k (omega arith), same (k + 1) (omega arith), same (k + 2) (omega arith), same (k + 3) (omega arith), ← (add-assoc from k 1), ← (add-assoc from k 2), ← (add-assoc from k 3))
+
+  padded-dot : (k : ℕ) → k + 12 ≤ 192 → dotAt copy k ≡ dotAt t (from + k)
+  unfolding dotIn u64At
+  padded-dot k h =
+      let e : from + (k + 4) ≡ from + k + 4 = omega arith in
+      let f : from + (k + 4 + 4) ≡ from + k + 4 + 4 = omega arith in
+      let a = padded-u32 k (omega arith) in
+      let b = rw e at (padded-u32 (k + 4) (omega arith)) in
+      let c = rw f at (padded-u32 (k + 4 + 4) (omega arith)) in
+      λ i. record { actor = record { 0 = a i }; counter = b i + c i * 4294967296 }
+
+  padded-from : (left k : ℕ) → k + 12 * left ≤ 192 → dotsAt copy k left ≡ dotsAt t (from + k) left
+  padded-from zero k h = list-end dotAt (λ s p. p + 12) copy k 0 (omega arith) ∙ sym (list-end dotAt (λ s p. p + 12) t (from + k) 0 (omega arith))
+  padded-from (suc left) k h =
+      let e : from + (k + 12) ≡ from + k + 12 = omega arith in
+      let r = rw e at (padded-from left (k + 12) (omega arith)) in
+      list-step dotAt (λ s p. p + 12) copy k (suc left) left (omega arith) ∙ ap₂ _∷_ (padded-dot k (omega arith)) r
+      ∙ sym (list-step dotAt (λ s p. p + 12) t (from + k) (suc left) left (omega arith))
+
+pub padded-dots : (t : List ℕ) (from : ℕ) (copy : List ℕ) (left : ℕ) → left ≤ 16 → Padded t from copy → dotsAt copy 0 left ≡ dotsAt t from left
+padded-dots t from copy left h p = padded-from t from copy (p .same) left 0 (omega arith) ∙ ap (λ (q : ℕ). dotsAt t q left) (add-zero from)
 
 -- ---- dots that stand in bytes one after the other
 
@@ -67,6 +115,10 @@ line-turn ds n i a d line rs rest h k e f g = rw (numbers-set line i d, ahead ds
 
 pub line-end : (ds : List Dot) (n i : ℕ) (line : List ℕ) (rs : List Dot) → n ≤ i → sets line i (along dots (map (λ d. actorOf d) (slice i n ds)) rs) ≡ line
 line-end ds n i line rs h = rw (done ds i n h)
+
+pub read-at : (v : Clock) (t : List ℕ) (at q n : ℕ) → q ≡ at → n ≡ min (u32At t q) 16 → lineOf v (dotsAt t (q + 4) n) ≡ lineOf v (clockRead t at)
+unfolding clockRead
+read-at v t at q n e f = rw (f, e)
 
 pub take-most : {A : Type 0} (l : List A) (n m k : ℕ) → length l ≡ m → k ≡ min n m → take k l ≡ take n l
 take-most l n m k h e = by-lt n m (λ q. let f : k ≡ n = omega arith in rw f) (λ q. take-all k l (omega arith) ∙ sym (take-all n l (omega arith)))

@@ -1,4 +1,4 @@
--- What skipping the rows below a key tells, what raising the lines of one member, and what a line that is nowhere above the floor.
+-- What a padded copy tells, what skipping the rows below a key tells, what raising the lines of one member, and what a line that is nowhere above the floor.
 use Prim.Native.Nat.{ℕ, _+_, _*_, _≤_, _<_}
 use mathlib.Core.Path.{_≡_}
 use mathlib.Core.Bool.{Bool, false}
@@ -8,6 +8,14 @@ use lib.Seq.{slice}
 use Rattle.tables.specs.Zip.{Rows}
 use Rattle.replica.specs.Replica.{memberRows}
 use Rattle.kills.specs.Lines.{reach, along, raised}
+
+-- bytes from a place on, with zeros past the end: the copy up to byte i, and the whole copy
+pub record Filled (t : List ℕ) (from i : ℕ) (copy : List ℕ) : Type 0 where
+  pub low : (j : ℕ) → j < i → getD copy j 0 ≡ getD t (from + j) 0
+  pub high : (j : ℕ) → i ≤ j → getD copy j 0 ≡ 0
+
+pub record Padded (t : List ℕ) (from : ℕ) (copy : List ℕ) : Type 0 where
+  pub same : (j : ℕ) → j < 192 → getD copy j 0 ≡ getD t (from + j) 0
 
 pub record Skipped (N : Rows) (all rest : List (N .Row)) (k left r : ℕ) : Type 0 where
   pub le : r ≤ left

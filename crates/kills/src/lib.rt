@@ -13,7 +13,7 @@ ghost use Rattle.layout.specs.Clock.{dotsAt};
 ghost use Rattle.layout.specs.Rows.{membersAt};
 ghost use Rattle.fields.specs.Read.{clockRead};
 ghost use Rattle.kills.specs.Lines.{along, numbers, lineOf, raiseFrom, raised, topLine, spread, killTable, membersOf, waitRead, waitsOf};
-ghost use Rattle.kills.specs.Posts.{Skipped, UpTo, Compared, Founded};
+ghost use Rattle.kills.specs.Posts.{Padded, Skipped, UpTo, Compared, Founded};
 use clocks::VClock;
 use dots::Actor;
 use dots::Dot;
@@ -33,31 +33,19 @@ fn at_most(n: usize, most: usize) -> usize
     if n < most { n } else { most }
 }
 
-// The actors of v, each with its counter in the clock at a place.
+// The actors of v, each with its counter in the clock at a place. A clock that reaches past the end is read from a copy that does not.
 pub fn line_at(t: &[u8], at: u32, v: VClock) -> [Dot; 16]
     ensures { λ r. ⌜ numbers r ≡ lineOf (dotsOf v) (clockRead (now (t .entry)) at) ⌝ }
 {
-    let n = at_most(v.len, 16);
-    let mut line = [Dot {
-        actor: Actor(0),
-        counter: 0,
-    }; 16];
     let q = wide(at);
-    let mut p = q + 4;
-    let mut left = at_most(wide(u32_at(t, q)), 16);
-    let mut i: usize = 0;
-    while i < n {
-        let a = v.dots[i].actor.0;
-        let r = skip_dots(t, p, left, a);
-        p += 12 * r;
-        left -= r;
-        line[i] = Dot {
-            actor: Actor(a),
-            counter: counted(t, p, left, a),
-        };
-        i += 1;
+    let from = q + 4;
+    let count = at_most(wide(u32_at(t, q)), 16);
+    if t.len() < from + 12 * count {
+        let copy = padded(t, from);
+        line_in(&copy, 0, count, v)
+    } else {
+        line_in(t, from, count, v)
     }
-    line
 }
 
 // Raises a line to another.
@@ -88,12 +76,14 @@ pub fn top_line(t: &[u8], waits: [u32; 16], k: usize, v: VClock) -> [u64; 16]
 
 // How many of the dots from a place on have an actor below a.
 fn skip_dots(t: &[u8], p: usize, left: usize, a: u32) -> usize
-    requires { ⌜ p + 12 * left < 281474976710656 ⌝ }
+    requires { ⌜ p + 12 * left ≤ length (now t) ⌝ }
     ensures { λ r. ⌜ Skipped dots (dotsAt (now (t .entry)) p left) (dotsAt (now (t .entry)) (p + 12 * r) (left - r)) a left r ⌝ }
 {
     let mut i: usize = 0;
     while i < left {
-        if u32_at(t, p + 12 * i) < a {
+        let q = p + 12 * i;
+        let here = &t[q..q + 12];
+        if u32_at(here, 0) < a {
             i += 1;
         } else {
             return i;
@@ -104,17 +94,62 @@ fn skip_dots(t: &[u8], p: usize, left: usize, a: u32) -> usize
 
 // The counter of the first of the dots from a place on, if its actor is a.
 fn counted(t: &[u8], p: usize, left: usize, a: u32) -> u64
-    requires { ⌜ p < 281474976710656 ⌝ }
+    requires { ⌜ p + 12 * left ≤ length (now t) ⌝ }
     ensures { λ r. ⌜ r ≡ said dots a (dotsAt (now (t .entry)) p left) ⌝ }
 {
     if left == 0 {
         return 0;
     }
-    if u32_at(t, p) == a {
-        u64_at(t, p + 4)
+    let here = &t[p..p + 12];
+    if u32_at(here, 0) == a {
+        u64_at(here, 4)
     } else {
         0
     }
+}
+
+// The actors of v, each with its counter among the dots from a place on, which lie inside: no read is tested when the code runs.
+fn line_in(t: &[u8], from: usize, count: usize, v: VClock) -> [Dot; 16]
+    requires { ⌜ from + 12 * count ≤ length (now t) ⌝ }
+    ensures { λ r. ⌜ numbers r ≡ lineOf (dotsOf v) (dotsAt (now (t .entry)) from count) ⌝ }
+{
+    let n = at_most(v.len, 16);
+    let mut line = [Dot {
+        actor: Actor(0),
+        counter: 0,
+    }; 16];
+    let mut p = from;
+    let mut left = count;
+    let mut i: usize = 0;
+    while i < n {
+        let a = v.dots[i].actor.0;
+        let r = skip_dots(t, p, left, a);
+        p += 12 * r;
+        left -= r;
+        line[i] = Dot {
+            actor: Actor(a),
+            counter: counted(t, p, left, a),
+        };
+        i += 1;
+    }
+    line
+}
+
+// The 192 bytes from a place on, with zeros past the end.
+fn padded(t: &[u8], from: usize) -> [u8; 192]
+    requires { ⌜ from < 281474976710656 ⌝ }
+    ensures { λ r. ⌜ Padded (now (t .entry)) from r ⌝ }
+{
+    let mut copy = [0u8; 192];
+    let mut i: usize = 0;
+    while i < 192 {
+        if t.len() <= from + i {
+            return copy;
+        }
+        copy[i] = t[from + i];
+        i += 1;
+    }
+    copy
 }
 
 fn larger(x: u64, y: u64) -> u64
