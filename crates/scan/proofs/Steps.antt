@@ -23,7 +23,7 @@ use Rattle.layout.specs.Rows.{membersAt, rowEnd, rowEndIn, waitEnd, waitEndIn}
 use Rattle.layout.specs.Good.{risingMembers, goodMembersIn, goodMembers, goodClockIn, goodClock, chain, rowTests, waitTests}
 use Rattle.layout.specs.Kit.{stands}
 use Rattle.fields.proofs.Steps.{list-step, list-end}
-use Rattle.scan.specs.Scan.{clockEnds, membersEnd, rowEnds, waitEnds}
+use Rattle.scan.specs.Scan.{DotsIn, clockEnds, membersEnd, rowEnds, waitEnds}
 
 -- ---- numbers in a part of the bytes
 
@@ -237,6 +237,14 @@ less-start s p q n m e f =
 clock-end-some : (s : List ℕ) (at : ℕ) → clockEnd s at ≡ 0 → ⊥
 unfolding clockEndIn
 clock-end-some s at e = omega arith
+
+pub clock-in : (s : List ℕ) (p q : ℕ) → q ≡ clockEnds s p → (q ≡ 0 → ⊥) → DotsIn s p
+unfolding clockEnds
+clock-in s p q e z = go (goodClock s p) refl e
+  where
+    go : (b : Bool) → goodClock s p ≡ b → q ≡ pick b (clockEnd s p) 0 → DotsIn s p
+    go true f u = record { room = λ h. stands s p f .room }
+    go false f u = absurd (z u)
 
 module _ (s : List ℕ) (p low : ℕ) where
   pub row-low : u32At s p < low → 0 ≡ rowEnds s p low

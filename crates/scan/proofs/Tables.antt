@@ -15,9 +15,9 @@ use Rattle.layout.specs.Lists.{startsAt, endAfter, listAt}
 use Rattle.layout.specs.Clock.{narrow, clockIn, clockAt}
 use Rattle.layout.specs.Rows.{rowEnd, placesAt, rowsEnd, waitEnd, waitPlacesAt, waitsEnd}
 use Rattle.layout.specs.Good.{goodRowsIn, goodRows, goodWaitsIn, goodWaits, chain, rowTests, waitTests}
-use Rattle.layout.specs.Kit.{starts-step, end-step, first-row, first-wait}
+use Rattle.layout.specs.Kit.{stands, starts-step, end-step, first-row, first-wait}
 use Rattle.fields.proofs.Steps.{u32-past}
-use Rattle.scan.specs.Scan.{rowEnds, waitEnds, rowsTable, noTable, waitsTable, noWaits}
+use Rattle.scan.specs.Scan.{DotsIn, rowEnds, waitEnds, rowsTable, noTable, waitsTable, noWaits}
 use Rattle.scan.proofs.Steps.{row-none, row-some, wait-none, wait-some}
 
 pub chain-last : (ts : List Bool) (b : Bool) → chain ts b ≡ (chain ts true && b)
@@ -67,6 +67,13 @@ row-inside s p low next w z = let r = row-some s p low next w z in rw (r .1) (fi
 pub wait-inside : (s : List ℕ) (p : ℕ) (last : Clock) (next : ℕ) → next ≡ waitEnds s p last → (next ≡ 0 → ⊥) → next ≤ length s
 unfolding goodWaitsIn
 wait-inside s p last next w z = let r = wait-some s p last next w z in rw (r .1) (first-wait s p last 0 (r .0) .inside)
+
+pub wait-in : (s : List ℕ) (p : ℕ) (last : Clock) (next : ℕ) → next ≡ waitEnds s p last → (next ≡ 0 → ⊥) → DotsIn s p
+unfolding goodWaitsIn
+wait-in s p last next w z = let r = wait-some s p last next w z in record { room = λ h. stands s p (first-wait s p last 0 (r .0) .clock-good) .room }
+
+pub none-in : (s : List ℕ) → DotsIn s (length s)
+none-in s = let e = u32-past s (length s) (omega arith) in record { room = λ h. absurd (omega arith) }
 
 -- the clock past the end is the empty one
 pub none-past : (s : List ℕ) → clockAt s (length s) ≡ []

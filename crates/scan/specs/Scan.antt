@@ -1,5 +1,5 @@
 -- What the checks of an image's parts answer: the place after what stands at a place, and 0 where it does not stand.
-use Prim.Native.Nat.{ℕ, _+_, _*_}
+use Prim.Native.Nat.{ℕ, _+_, _*_, _≤_, _<_}
 use mathlib.Core.Bool.{Bool, true, false, _&&_}
 use mathlib.Core.List.{List, []}
 use lib.Dec.{leb}
@@ -20,6 +20,10 @@ clockEnds s at = pick (goodClock s at) (clockEnd s at) 0
 
 unfoldable pub membersEnd : List ℕ → ℕ → ℕ
 membersEnd s q = pick (goodMembers s q) (q + (4 + 4 * u32At s q)) 0
+
+-- the dots of the clock at a place lie inside, if it has any
+pub record DotsIn (s : List ℕ) (at : ℕ) : Type 0 where
+  pub room : 0 < u32At s at → at + (4 + 12 * u32At s at) ≤ length s
 
 -- an entry whose member is at least low, and whose clock is not empty
 unfoldable pub rowEnds : List ℕ → ℕ → ℕ → ℕ

@@ -11,7 +11,7 @@ ghost use Rattle.layout.specs.Fields.{u32At, u64At};
 ghost use Rattle.layout.specs.Clock.{dotAt, dotsAt, clockAt};
 ghost use Rattle.layout.specs.Rows.{membersAt};
 ghost use Rattle.layout.specs.Good.{risingMembers};
-ghost use Rattle.scan.specs.Scan.{clockEnds, membersEnd, rowEnds, waitEnds, rowsTable, noTable, waitsTable, noWaits};
+ghost use Rattle.scan.specs.Scan.{DotsIn, clockEnds, membersEnd, rowEnds, waitEnds, rowsTable, noTable, waitsTable, noWaits};
 use fields::u32_at;
 use fields::u64_at;
 
@@ -146,11 +146,11 @@ pub fn members_end(s: &[u8], at: usize) -> usize
 
 // Whether two dots are the same.
 fn same(s: &[u8], x: usize, y: usize) -> bool
-    requires { ⌜ (x < 281474976710656) × (y < 281474976710656) ⌝ }
+    requires { ⌜ (x + 12 ≤ length (now s)) × (y + 12 ≤ length (now s)) ⌝ }
     ensures { λ r. ⌜ r ≡ isEq (cmpDot (dotAt (now (s .entry)) x) (dotAt (now (s .entry)) y)) ⌝ }
 {
-    if u32_at(s, x) == u32_at(s, y) {
-        u64_at(s, x + 4) == u64_at(s, y + 4)
+    if u32_in(s, x) == u32_in(s, y) {
+        u64_in(s, x + 4) == u64_in(s, y + 4)
     } else {
         false
     }
@@ -158,23 +158,23 @@ fn same(s: &[u8], x: usize, y: usize) -> bool
 
 // Whether the first of two dots is before the second.
 fn before(s: &[u8], x: usize, y: usize) -> bool
-    requires { ⌜ (x < 281474976710656) × (y < 281474976710656) ⌝ }
+    requires { ⌜ (x + 12 ≤ length (now s)) × (y + 12 ≤ length (now s)) ⌝ }
     ensures { λ r. ⌜ r ≡ isLt (cmpDot (dotAt (now (s .entry)) x) (dotAt (now (s .entry)) y)) ⌝ }
 {
-    let a = u32_at(s, x);
-    let b = u32_at(s, y);
+    let a = u32_in(s, x);
+    let b = u32_in(s, y);
     if a < b {
         return true;
     }
     if b < a {
         return false;
     }
-    u64_at(s, x + 4) < u64_at(s, y + 4)
+    u64_in(s, x + 4) < u64_in(s, y + 4)
 }
 
 // Whether the clock at p is before the clock at q.
 fn clock_less(s: &[u8], p: usize, q: usize) -> bool
-    requires { ⌜ (p < 70368744177664) × (q < 70368744177664) ⌝ }
+    requires { ⌜ (p < 70368744177664) × (q < 70368744177664) × DotsIn (now s) p × DotsIn (now s) q ⌝ }
     ensures { λ r. ⌜ r ≡ isLt (cmpClock (clockAt (now (s .entry)) p) (clockAt (now (s .entry)) q)) ⌝ }
 {
     let n = wide(u32_at(s, p));
@@ -209,7 +209,7 @@ fn row_ends(s: &[u8], p: usize, low: usize) -> usize
 
 // The place after the waiting remove at a place; 0 where none stands whose clock is after the one at `last`.
 fn wait_ends(s: &[u8], p: usize, last: usize) -> usize
-    requires { ⌜ (p < 70368744177664) × (last < 70368744177664) ⌝ }
+    requires { ⌜ (p < 70368744177664) × (last < 70368744177664) × DotsIn (now s) last ⌝ }
     ensures { λ r. ⌜ r ≡ waitEnds (now (s .entry)) p (clockAt (now (s .entry)) last) ⌝ }
 {
     let q = clock_ends(s, p);

@@ -11,7 +11,7 @@ returns-2 : tie.Need-returns-2
 returns-2 c = let a = c .before .before .before .before .before .args in after-actor (a .s .now) (a .x) (a .y) (omega arith)
 
 returns-3 : tie.Need-returns-3
-returns-3 c = let a = c .before .before .before .before .before .before .before .args in before-counter (a .s .now) (a .x) (a .y) (omega arith) _ _ (c .before .u64-at .ensures) (c .u64-at2 .ensures)
+returns-3 c = let a = c .before .before .before .before .before .before .before .args in before-counter (a .s .now) (a .x) (a .y) (omega arith) _ _ (c .before .u64-in .ensures) (c .u64-in2 .ensures)
 
 pub before-spec : {M : Type 1} → statement M
 before-spec =

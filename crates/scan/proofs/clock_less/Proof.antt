@@ -18,6 +18,20 @@ abbrev μ-loop : tie.MeasureT-loop
 loop-holds : tie.Need-loop-holds Inv-loop μ-loop
 loop-holds c = let a = c .before .before .before .before .before .args in (search needs, search needs, less-start (a .s .now) (a .p) (a .q) _ _ (c .before .before .wide .ensures .0 ∙ c .before .before .before .u32-at .ensures) (c .wide2 .ensures .0 ∙ c .before .u32-at2 .ensures))
 
+same-requires : tie.Need-same-requires Inv-loop μ-loop
+same-requires c κs =
+    let l = c .before .before .loop in
+    let x = c .before .before .before .before .before .before .before .before .pre .2 .room (omega arith) in
+    let y = c .before .before .before .before .before .before .before .before .pre .3 .room (omega arith) in
+    (omega arith, omega arith)
+
+before-requires : tie.Need-before-requires Inv-loop μ-loop
+before-requires c κs =
+    let l = c .before .before .before .before .loop in
+    let x = c .before .before .before .before .before .before .before .before .before .before .pre .2 .room (omega arith) in
+    let y = c .before .before .before .before .before .before .before .before .before .before .pre .3 .room (omega arith) in
+    (omega arith, omega arith)
+
 returns : tie.Need-returns Inv-loop μ-loop
 returns c = let a = c .before .before .before .before .before .before .before .before .args in let l = c .before .before .loop in sym (less-longer (a .s .now) (a .p) (a .q) (c .before .before .before .before .before .wide .result) (c .before .before .before .wide2 .result) (l .i) (omega arith) (omega arith)) ∙ l .inv .2
 
@@ -35,6 +49,6 @@ clock-less-spec =
     tie.close
     (tie.spec Inv-loop μ-loop (λ c κs. search needs) (λ c κs. search needs) (λ c κs. search needs)
     (λ c κs. search needs) loop-holds returns (λ c. search needs) (λ c. search needs) (λ c. search needs)
-    (λ c. search needs) (λ c. search needs) (λ c. search needs) (λ c κs. search needs) (λ c. search needs)
+    (λ c. search needs) (λ c. search needs) (λ c. search needs) same-requires (λ c. search needs)
     (λ c. search needs) loop-again (λ c. search needs) (λ c. search needs) (λ c. search needs) (λ c. search needs)
-    (λ c. search needs) (λ c. search needs) (λ c κs. search needs) returns-2 returns-3)
+    (λ c. search needs) (λ c. search needs) before-requires returns-2 returns-3)

@@ -5,7 +5,7 @@ use Rattle.scan.proofs.same.Statement.{statement}
 use Rattle.scan.proofs.same.Tie as tie
 
 returns : tie.Need-returns
-returns c = let a = c .before .before .before .before .before .before .args in same-actor (a .s .now) (a .x) (a .y) (omega arith) _ _ (c .before .u64-at .ensures) (c .u64-at2 .ensures)
+returns c = let a = c .before .before .before .before .before .before .args in same-actor (a .s .now) (a .x) (a .y) (omega arith) _ _ (c .before .u64-in .ensures) (c .u64-in2 .ensures)
 
 returns-2 : tie.Need-returns-2
 returns-2 c = let a = c .before .before .before .before .args in other-actor (a .s .now) (a .x) (a .y) (λ e. omega arith)
