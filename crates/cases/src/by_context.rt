@@ -7,22 +7,22 @@ use crate::held::room;
 use crate::say;
 use dots::Actor;
 use dots::Member;
-use proposing::OneAnswer;
+use orswot::OneAnswer;
 
 // The add of 5 by actor 1, from what a read of the replica handed out.
 fn add_made(h: Held) -> OneAnswer {
     let from = h.bytes;
     let n = room(h.len, &from);
-    let ctx = reading::read_ctx(&from[..n]).ctx;
-    proposing::add(Member(5), ctx.derive_add_ctx(Actor(1)).ctx)
+    let ctx = orswot::read_ctx(&from[..n]).ctx;
+    orswot::add(Member(5), ctx.derive_add_ctx(Actor(1)).ctx)
 }
 
 // The remove of 5, from what `contains` handed out.
 fn rm_made(h: Held) -> OneAnswer {
     let from = h.bytes;
     let n = room(h.len, &from);
-    let ctx = reading::contains(&from[..n], Member(5)).ctx;
-    proposing::rm(Member(5), ctx.derive_rm_ctx().ctx)
+    let ctx = orswot::contains(&from[..n], Member(5)).ctx;
+    orswot::rm(Member(5), ctx.derive_rm_ctx().ctx)
 }
 
 fn done(h: Held, made: OneAnswer) -> Held {

@@ -3,10 +3,10 @@ ghost use Rattle.io.specs.Counts.{Counts};
 use clocks::VClock;
 use dots::Actor;
 use dots::Dot;
-use merging::apply;
-use merging::merge;
-use merging::reset_remove;
-use operations::Op;
+use orswot::Op;
+use orswot::apply;
+use orswot::merge;
+use orswot::reset_remove;
 
 pub struct Held {
     pub no: u32,
@@ -41,7 +41,7 @@ pub fn two(a: u32, m: u64, b: u32, n: u64) -> VClock {
 
 pub fn empty() -> Held {
     let mut bytes = [0u8; 1536];
-    let w = reading::empty(&mut bytes);
+    let w = orswot::empty(&mut bytes);
     Held {
         no: w.no,
         len: w.len,

@@ -12,11 +12,11 @@ use crate::held::removed;
 use crate::held::room;
 use crate::say;
 use clocks::VClock;
-use merging::apply;
-use merging::merge;
-use merging::reset_remove;
-use operations::Op;
-use results::Written;
+use orswot::Op;
+use orswot::Written;
+use orswot::apply;
+use orswot::merge;
+use orswot::reset_remove;
 
 // V of so many actors, each with counter 1, and member 5 with all their dots.
 fn of_actors(many: u32) -> Held

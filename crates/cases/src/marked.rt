@@ -13,7 +13,7 @@ use crate::held::room;
 use crate::held::two;
 use crate::say;
 use clocks::VClock;
-use operations::Op;
+use orswot::Op;
 
 pub fn first_cases() {
     say::whole(b"5. Empty replica, add 1.1 of 5: ", e());
@@ -26,7 +26,7 @@ fn judged(h: Held) {
     let bytes = h.bytes;
     let n = room(h.len, &bytes);
     let list = [6u32];
-    let v = proposing::validate_op(&bytes[..n], Op::Add(dot(1, 3)), VClock::new(), &list);
+    let v = orswot::validate_op(&bytes[..n], Op::Add(dot(1, 3)), VClock::new(), &list);
     say::validation(b"6. validate_op had said: ", v);
 }
 

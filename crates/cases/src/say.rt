@@ -1,7 +1,7 @@
 // Prints words, numbers and images.
 use crate::held::Held;
 use crate::held::room;
-use operations::OpValidation;
+use orswot::OpValidation;
 
 pub fn words(w: &[u8]) {
     io::write_all(1, w);
