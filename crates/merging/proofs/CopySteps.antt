@@ -1,26 +1,21 @@
 -- Waiting removes copied as they stand in bytes.
 use Prim.Native.Nat.{ℕ, suc, _+_, _*_, _-_, _≤_, _<_}
 use mathlib.Core.Path.{_≡_, sym, ap₂, _∙_, subst}
-use mathlib.Core.Bool.{Bool, false}
-use mathlib.Core.List.{List, [], _∷_, _++_}
+use mathlib.Core.List.{List, _∷_, _++_}
 use native.Mathlib.Omega.{arith}
 use lib.ListN.{length, take, drop, length-append}
-use lib.Seq.{sets, slice, take-add, drop-at, length-take-le}
-use Rattle.dots.specs.Clock.{Clock}
-use Rattle.layout.specs.Fields.{Bytes, u32At, le32, length-le32}
-use Rattle.layout.specs.Held.{Holds, holds-left, holds-right, holds-room}
-use Rattle.layout.specs.Lists.{listAt, bytesOf}
-use Rattle.layout.specs.Form.{length-listAt}
-use Rattle.layout.specs.Clock.{narrow, clockIn, clockEndIn, clockAt, clockEnd, encodeClock}
-use Rattle.layout.specs.Rows.{membersAt, encodeMembers, waitIn, waitEndIn, waitEnd, waitAtPlace, encodeWait, encodeWaitIn}
-use Rattle.layout.specs.Kit.{part-is, length-encodeClock, length-encodeWait}
-use Rattle.layout.specs.Parts.{waitForm, clock-laws, wait-laws}
+use lib.Seq.{slice, take-add, drop-at, length-take-le}
+use Rattle.layout.specs.Fields.{Bytes, u32At, le32}
+use Rattle.layout.specs.Held.{Holds, holds-left, holds-right}
+use Rattle.layout.specs.Lists.{listAt}
+use Rattle.layout.specs.Clock.{clockAt, clockEnd, encodeClock}
+use Rattle.layout.specs.Rows.{membersAt, encodeMembers, waitIn, waitEnd, waitAtPlace, encodeWait, encodeWaitIn}
+use Rattle.layout.specs.Kit.{part-is}
+use Rattle.layout.specs.Parts.{clock-laws, wait-laws}
 
 -- a part of the bytes that holds e is e
-pub copied-is : (s : List ℕ) (p end : ℕ) (e : List ℕ) → Holds s p e → 0 < length e → end ≡ p + length e → slice p end s ≡ e
-copied-is s p end e h k q =
-    let r = holds-room s p e k h in
-    rw (q, take-add p (length e) s) (drop-at (take p s) (take (length e) (drop p s)) p (length-take-le p s (omega arith)) ∙ part-is s p e h)
+pub copied-is : (s : List ℕ) (p end : ℕ) (e : List ℕ) → Holds s p e → p ≤ length s → end ≡ p + length e → slice p end s ≡ e
+copied-is s p end e h k q = rw (q, take-add p (length e) s) (drop-at (take p s) (take (length e) (drop p s)) p (length-take-le p s k) ∙ part-is s p e h)
 
 -- members after their count
 abbrev pub countedAt : List ℕ → ℕ → List ℕ
@@ -41,12 +36,12 @@ module _ (s : List ℕ) (p : ℕ) (b : Bytes s) (r : waitEnd s p ≤ length s) w
 
   -- the whole of it
   pub wait-copied : slice p (waitEnd s p) s ≡ encodeWait (waitAtPlace s p)
-  wait-copied = let l = length-encodeWait (waitAtPlace s p) in copied-is s p (waitEnd s p) (encodeWait (waitAtPlace s p)) wait-holds (omega arith) wait-long
+  wait-copied = let l = wait-long in copied-is s p (waitEnd s p) (encodeWait (waitAtPlace s p)) wait-holds (omega arith) wait-long
 
   -- its clock
   pub clock-copied : slice p (clockEnd s p) s ≡ encodeClock (clockAt s p)
   unfolding waitIn encodeWaitIn
-  clock-copied = let l = length-encodeClock (clockAt s p) in copied-is s p (clockEnd s p) (encodeClock (clockAt s p)) (holds-left s p (encodeClock (clockAt s p)) counted wait-holds) (omega arith) clock-long
+  clock-copied = let l = wait-long in copied-is s p (clockEnd s p) (encodeClock (clockAt s p)) (holds-left s p (encodeClock (clockAt s p)) counted wait-holds) (omega arith) clock-long
 
   -- its members
   pub members-copied : slice (clockEnd s p) (waitEnd s p) s ≡ counted
@@ -54,10 +49,9 @@ module _ (s : List ℕ) (p : ℕ) (b : Bytes s) (r : waitEnd s p ≤ length s) w
   members-copied =
       let h : Holds s (clockEnd s p) counted = subst (λ (i : ℕ). Holds s i counted) (sym clock-long) (holds-right s p (encodeClock (clockAt s p)) counted wait-holds) in
       let l : length (encodeClock (clockAt s p) ++ counted) ≡ length (encodeClock (clockAt s p)) + length counted = length-append (encodeClock (clockAt s p)) counted in
-      let k : 0 < length counted = simp (length-append, length-le32) (omega arith) in
       let c = clock-long in
       let w = wait-long in
-      copied-is s (clockEnd s p) (waitEnd s p) counted h k (omega arith)
+      copied-is s (clockEnd s p) (waitEnd s p) counted h (omega arith) (omega arith)
 
 -- ---- members that are the same
 

@@ -104,7 +104,7 @@ pub draft-of : (es : List Entry) (ws : List Wait) (start : ℕ) (out mid out′ 
 draft-of es ws start out mid out′ n at most w r k m = record {
   entries = r .count;
   waits = k .count;
-  most = m ∙ ap (ltb 32) (k .most);
+  most = m ∙ k .most;
   middle = r .ends;
   end = k .ends;
   bytes = k .bytes ∙ ap (λ (l : List ℕ). sets l at (encodeWaits ws)) (r .bytes);

@@ -5,6 +5,7 @@ use mathlib.Core.Option.{Option, none, some}
 use mathlib.Core.List.{List, [], _∷_}
 use native.Mathlib.Omega.{arith}
 use native.Mathlib.Nat.{add-zero, zero-add}
+use lib.Dec.{ltb}
 use lib.ListN.{length, length-append}
 use lib.Seq.{sets, length-sets}
 use Rattle.tables.specs.Table.{Normal, All, all-map, cons?}
@@ -157,7 +158,7 @@ module _ (v : Clock) (s : List ℕ) (p m : ℕ) (t : List ℕ) (q k : ℕ) (R : 
         record {
           count = rw (nil, add-zero) at (z .count);
           ends = rw (nil, add-zero) at (z .ends);
-          most = let mo = rw nil at (z .most) in omega arith;
+          most = let mo = rw nil at (z .most) in let e : w .most ≡ mostNamed whole = omega arith in ap (ltb 32) e;
           few = omega arith;
           room = omega arith;
           bytes = rw nil at (z .store);

@@ -4,7 +4,7 @@ use mathlib.Core.Path.{_≡_}
 use mathlib.Core.Bool.{Bool}
 use mathlib.Core.Option.{Option, none, some}
 use mathlib.Core.List.{List, [], _∷_}
-use lib.Dec.{eqb}
+use lib.Dec.{eqb, ltb}
 use lib.ListN.{length, getD}
 use lib.Seq.{sets}
 use Rattle.tables.specs.Table.{Normal, All, pick, cons?}
@@ -153,11 +153,11 @@ pub record WaitsReady (v : Clock) (s : List ℕ) (p m : ℕ) (t : List ℕ) (q k
   pub right-inside : waitsEnd t q k ≤ length t
   pub clock-ok : Normal clocks v
 
--- waiting removes written from a place on: how many, where they end, and the most members that one names
+-- waiting removes written from a place on: how many, where they end, and whether one names more than 32 members
 pub record WroteWaits (out : List ℕ) (at : ℕ) (ws : List Wait) (out′ : List ℕ) (r : Waits) : Type 0 where
   pub count : r .n ≡ length ws
   pub ends : r .at ≡ at + length (encodeWaits ws)
-  pub most : r .most ≡ mostNamed ws
+  pub most : ltb 32 (r .most) ≡ ltb 32 (mostNamed ws)
   pub few : r .n ≤ 32
   pub room : r .at ≤ at + 131072
   pub bytes : out′ ≡ sets out at (encodeWaits ws)

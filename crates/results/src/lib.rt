@@ -1,7 +1,6 @@
 // What a call that writes a replica answers, and how its result is finished.
 ghost use mathlib.Core.Path.{_≡_};
 ghost use Prim.Native.Nat.{_-_, _<_, min};
-ghost use lib.ListN.{length};
 ghost use lib.Seq.{sets, slice};
 ghost use Rattle.results.specs.Call.{answered};
 ghost use Rattle.results.specs.Finish.{Finished};

@@ -1,7 +1,5 @@
-use mathlib.Core.Path.{sym, ap, _∙_}
+use mathlib.Core.Path.{sym, _∙_}
 use native.Mathlib.Omega.{arith}
-use lib.ListN.{length}
-use lib.Seq.{length-sets}
 use Rattle.layout.specs.Fields.{Bytes}
 use Rattle.merging.proofs.WaitSteps.{cover-clock, put-none, put-whole, whole-end}
 use borrow.Author.Needs.{needs}

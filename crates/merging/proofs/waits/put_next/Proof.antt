@@ -1,7 +1,6 @@
 use native.Mathlib.Omega.{arith}
 use borrow.Author.Tests.{eq-eqb, ne-eqb}
 use Rattle.merging.proofs.WaitSteps.{put-size, put-same, names-inside, only-left-named, only-right-named, same-named}
-use borrow.Author.Needs.{needs}
 use Rattle.merging.proofs.waits.put_next.Statement.{statement}
 use Rattle.merging.proofs.waits.put_next.Tie as tie
 
