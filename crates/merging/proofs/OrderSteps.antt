@@ -15,7 +15,7 @@ use Rattle.dots.specs.Covering.{coverOf}
 use Rattle.replica.specs.Replica.{waits}
 use Rattle.layout.specs.Fields.{u32At, u64At}
 use Rattle.layout.specs.Lists.{listAt}
-use Rattle.layout.specs.Clock.{dotIn, dotAt, dotsAt, clockIn}
+use Rattle.layout.specs.Clock.{dotIn, dotAt, dotsAt, clockIn, clockEndIn, clockEnd}
 use Rattle.layout.specs.Rows.{waitIn, waitsAt}
 use Rattle.merging.specs.Waiting.{orderOf, dotsFrom}
 
@@ -110,6 +110,11 @@ module _ (s : List ℕ) (p : ℕ) (t : List ℕ) (q : ℕ) where
   either zero k h g n l r en el e = absurd (h refl)
   either (suc m) zero h g n l r en el e = absurd (g refl)
   either (suc m) (suc k) h g n l r en el e = rw (en, el) at e
+
+-- the dots of a clock that ends inside
+pub dots-inside : (s : List ℕ) (p : ℕ) {k : ℕ} → clockEnd s p ≤ k → (p + 4 ≤ k) × ((n : ℕ) → n ≡ u32At s p → p + 4 + 12 * n ≤ k)
+unfolding clockEndIn
+dots-inside s p h = (omega arith, λ n e. omega arith)
 
 -- ---- covering
 

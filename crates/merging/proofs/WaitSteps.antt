@@ -112,6 +112,10 @@ put-united s p x ms most out at b n long r out₁ out₂ out₃ bs h e en el f w
 pub whole-end : {s : List ℕ} {p : ℕ} {x : Part} → waiting.Whole s p x → p ≤ x .end
 whole-end {s} {p} h = let e = h .end in let w = wait-end s p in omega arith
 
+pub clock-inside : {s : List ℕ} {p : ℕ} {x : Part} {n : ℕ} → waiting.Whole s p x → n ≡ u32At s p → p + 4 + 12 * n ≤ length s
+unfolding waitEndIn clockEndIn
+clock-inside h e = let i = h .inside in omega arith
+
 pub names-inside : {s : List ℕ} {p : ℕ} {x : Part} → waiting.Whole s p x → x .names + 4 * x .count ≤ length s
 unfolding waitEndIn
 names-inside h = let n = h .names in let c = h .count in let i = h .inside in omega arith
@@ -150,6 +154,12 @@ pub end-ge : (s : List ℕ) (p m : ℕ) → p ≤ waitsEnd s p m
 unfolding endAfter waitEndIn clockEndIn
 end-ge s p zero = omega arith
 end-ge s p (suc m) = let h = end-ge s (waitEnd s p) m in omega arith
+
+-- the clock of the first of them ends before they do
+pub first-inside : (s : List ℕ) (p m : ℕ) {n : ℕ} → waitsEnd s p m ≤ n → 0 < m → clockEnd s p ≤ n
+unfolding endAfter waitEndIn
+first-inside s p zero h l = absurd (omega arith)
+first-inside s p (suc m) h l = let k = end-ge s (waitEnd s p) m in omega arith
 
 pub part-none : (s : List ℕ) (p e n taken : ℕ) → n ≡ u32At s p → e ≡ p + 4 + 12 * n → n < 4294967296 → p < 4294967296 → taken ≡ 0 → waiting.PartAt s p taken (record { names = e + 4; count = 0; end = p })
 unfolding clockEndIn

@@ -42,20 +42,8 @@ fn keep(la: u64, lb: u64, u: u64, w: u64) -> u64
     if la < w { w } else { 0 }
 }
 
-// The counter of the dot at a place, where it is met; 0 where not.
-pub(crate) fn counter_at(s: &[u8], at: usize, met: usize) -> u64
-    requires { ⌜ at < 1099511627776 ⌝ }
-    ensures { λ r. ⌜ r ≡ pick (eqb met 0) 0 (u64At (now (s .entry)) (at + 4)) ⌝ }
-{
-    if met == 0 {
-        0
-    } else {
-        fields::u64_at(s, at + 4)
-    }
-}
-
 // The 32-bit number at a place that lies inside: of a part of known length, nothing is tested when the code runs.
-fn u32_in(s: &[u8], at: usize) -> u32
+pub(crate) fn u32_in(s: &[u8], at: usize) -> u32
     requires { ⌜ at + 4 ≤ length (now s) ⌝ }
     ensures { λ r. ⌜ r ≡ u32At (now (s .entry)) at ⌝ }
 {
@@ -63,7 +51,7 @@ fn u32_in(s: &[u8], at: usize) -> u32
 }
 
 // The 64-bit number there.
-fn u64_in(s: &[u8], at: usize) -> u64
+pub(crate) fn u64_in(s: &[u8], at: usize) -> u64
     requires { ⌜ at + 8 ≤ length (now s) ⌝ }
     ensures { λ r. ⌜ r ≡ u64At (now (s .entry)) at ⌝ }
 {
@@ -71,7 +59,7 @@ fn u64_in(s: &[u8], at: usize) -> u64
 }
 
 // 1 where the next of some dots has the actor, and 0 where it hasn't or none is left.
-fn met_in(s: &[u8], at: usize, left: usize, actor: u32) -> usize
+pub(crate) fn met_in(s: &[u8], at: usize, left: usize, actor: u32) -> usize
     requires { ⌜ at + 12 * left ≤ length (now s) ⌝ }
     ensures { λ r. ⌜ Met (now (s .entry)) at left actor r ⌝ }
 {
@@ -82,7 +70,7 @@ fn met_in(s: &[u8], at: usize, left: usize, actor: u32) -> usize
 }
 
 // The counter of that dot, where it is met; 0 where not.
-fn counter_in(s: &[u8], at: usize, met: usize) -> u64
+pub(crate) fn counter_in(s: &[u8], at: usize, met: usize) -> u64
     requires { ⌜ (0 < met → at + 12 ≤ length (now s)) ⌝ }
     ensures { λ r. ⌜ r ≡ pick (eqb met 0) 0 (u64At (now (s .entry)) (at + 4)) ⌝ }
 {

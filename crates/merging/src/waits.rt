@@ -10,7 +10,7 @@ ghost use Rattle.tables.specs.Zip.{turnOf};
 ghost use Rattle.dots.specs.Dot.{cmpDot};
 ghost use Rattle.dots.specs.Covering.{coverOf};
 ghost use Rattle.replica.specs.Replica.{waits};
-ghost use Rattle.layout.specs.Clock.{dotAt, dotsAt, clockAt};
+ghost use Rattle.layout.specs.Clock.{dotAt, dotsAt, clockAt, clockEnd};
 ghost use Rattle.layout.specs.Rows.{membersAt, waitsAt};
 ghost use Rattle.changing.specs.KeptWaits.{bothSets, keptWaits};
 ghost use Rattle.merging.specs.Waiting.{orderOf, dotsFrom, Named, MembersReady, WroteMembers, PartAt, Whole, Next, PutWait, WaitsAhead, MergedWait, WaitsReady, WroteWaits};
@@ -19,7 +19,10 @@ use crate::ahead::key_at;
 use crate::ahead::lower;
 use crate::ahead::meets;
 use crate::ahead::wide;
-use crate::entries::counter_at;
+use crate::entries::counter_in;
+use crate::entries::met_in;
+use crate::entries::u32_in;
+use crate::entries::u64_in;
 
 // 0 where the first number is smaller, 1 where both are equal, 2 where the second is smaller.
 fn by_number(x: u64, y: u64) -> usize
@@ -33,14 +36,14 @@ fn by_number(x: u64, y: u64) -> usize
 
 // Which of two dots in bytes is first, by actor, then counter: 0, 1 or 2 as above.
 fn dot_order(s: &[u8], p: usize, t: &[u8], q: usize) -> usize
-    requires { ⌜ (p < 1099511627776) × (q < 1099511627776) ⌝ }
+    requires { ⌜ (p + 12 ≤ length (now s)) × (q + 12 ≤ length (now t)) ⌝ }
     ensures { λ r. ⌜ r ≡ orderOf (cmpDot (dotAt (now (s .entry)) p) (dotAt (now (t .entry)) q)) ⌝ }
 {
-    let a = by_number(wide(fields::u32_at(s, p)), wide(fields::u32_at(t, q)));
+    let a = by_number(wide(u32_in(s, p)), wide(u32_in(t, q)));
     if a != 1 {
         return a;
     }
-    by_number(fields::u64_at(s, p + 4), fields::u64_at(t, q + 4))
+    by_number(u64_in(s, p + 4), u64_in(t, q + 4))
 }
 
 // The smaller of two counts.
@@ -52,7 +55,7 @@ fn fewer(n: usize, m: usize) -> usize
 
 // Which of two clocks in bytes is first: the n dots at p of s, or the m at q of t.
 fn order(s: &[u8], p: usize, n: usize, t: &[u8], q: usize, m: usize) -> usize
-    requires { ⌜ (p + 12 * n < 1099511627776) × (q + 12 * m < 1099511627776) ⌝ }
+    requires { ⌜ (p + 12 * n ≤ length (now s)) × (q + 12 * m ≤ length (now t)) ⌝ }
     ensures { λ r. ⌜ r ≡ orderOf (lex cmpDot (dotsAt (now (s .entry)) p n) (dotsAt (now (t .entry)) q m)) ⌝ }
 {
     let least = fewer(n, m);
@@ -69,7 +72,7 @@ fn order(s: &[u8], p: usize, n: usize, t: &[u8], q: usize, m: usize) -> usize
 
 // Which of the waiting removes ahead is next: the one at p of s, where m are left, or the one at q of t, where k are; 1 where both are.
 fn next_wait(s: &[u8], p: usize, m: usize, t: &[u8], q: usize, k: usize) -> usize
-    requires { ⌜ (0 < m + k) × (p < 4294967296) × (q < 4294967296) ⌝ }
+    requires { ⌜ (0 < m + k) × (0 < m → clockEnd (now s) p ≤ length (now s)) × (0 < k → clockEnd (now t) q ≤ length (now t)) ⌝ }
     ensures { λ r. ⌜ r ≡ orderOf (turnOf waits (waitsAt (now (s .entry)) p m) (waitsAt (now (t .entry)) q k)) ⌝ }
 {
     if k == 0 {
@@ -90,15 +93,15 @@ fn next_wait(s: &[u8], p: usize, m: usize, t: &[u8], q: usize, k: usize) -> usiz
 
 // Whether the clock of k actors and their counters covers the n dots at p: one walk along the actors.
 fn covered(s: &[u8], p: usize, n: usize, actors: &[u32; 16], k: usize, line: &[u64; 16]) -> bool
-    requires { ⌜ (p + 12 * n < 1099511627776) × (k ≤ 16) ⌝ }
+    requires { ⌜ (p + 12 * n ≤ length (now s)) × (k ≤ 16) ⌝ }
     ensures { λ r. ⌜ r ≡ coverOf (dotsFrom (now (actors .entry)) (now (line .entry)) 0 k) (dotsAt (now (s .entry)) p n) ⌝ }
 {
     let mut at = p;
     let mut left = n;
     let mut i: usize = 0;
     while i < k {
-        let met = meets(s, at, left, actors[i]);
-        if line[i] < counter_at(s, at, met) {
+        let met = met_in(s, at, left, actors[i]);
+        if line[i] < counter_in(s, at, met) {
             return false;
         }
         at += 12 * met;
@@ -292,7 +295,7 @@ fn same_members(s: &[u8], p: usize, n: usize, t: &[u8], q: usize, m: usize) -> b
     }
     let mut i: usize = 0;
     while i < n {
-        if fields::u32_at(s, p + 4 * i) != fields::u32_at(t, q + 4 * i) {
+        if u32_in(s, p + 4 * i) != u32_in(t, q + 4 * i) {
             return false;
         }
         i += 1;

@@ -7,12 +7,12 @@ use Rattle.merging.proofs.waits.dot_order.Statement.{statement}
 use Rattle.merging.proofs.waits.dot_order.Tie as tie
 
 returns : tie.Need-returns
-returns c = dots-first _ _ _ _ _ (c .before .by-number .ensures ∙ ap₂ (λ (x y : ℕ). orderOf (compare x y)) (c .before .before .before .before .wide .ensures .0 ∙ c .before .before .before .before .before .u32-at .ensures) (c .before .before .wide2 .ensures .0 ∙ c .before .before .before .u32-at2 .ensures)) (c .if1 .taken)
+returns c = dots-first _ _ _ _ _ (c .before .by-number .ensures ∙ ap₂ (λ (x y : ℕ). orderOf (compare x y)) (c .before .before .before .before .wide .ensures .0 ∙ c .before .before .before .before .before .u32-in .ensures) (c .before .before .wide2 .ensures .0 ∙ c .before .before .before .u32-in2 .ensures)) (c .if1 .taken)
 
 returns-2 : tie.Need-returns-2
 returns-2 c =
-    dots-then _ _ _ _ _ _ (c .before .before .before .before .by-number .ensures ∙ ap₂ (λ (x y : ℕ). orderOf (compare x y)) (c .before .before .before .before .before .before .before .wide .ensures .0 ∙ c .before .before .before .before .before .before .before .before .u32-at .ensures) (c .before .before .before .before .before .wide2 .ensures .0 ∙ c .before .before .before .before .before .before .u32-at2 .ensures)) (c .before .before .before .if1 .left)
-    (c .by-number2 .ensures ∙ ap₂ (λ (x y : ℕ). orderOf (compare x y)) (c .before .before .u64-at .ensures) (c .before .u64-at2 .ensures))
+    dots-then _ _ _ _ _ _ (c .before .before .before .before .by-number .ensures ∙ ap₂ (λ (x y : ℕ). orderOf (compare x y)) (c .before .before .before .before .before .before .before .wide .ensures .0 ∙ c .before .before .before .before .before .before .before .before .u32-in .ensures) (c .before .before .before .before .before .wide2 .ensures .0 ∙ c .before .before .before .before .before .before .u32-in2 .ensures)) (c .before .before .before .if1 .left)
+    (c .by-number2 .ensures ∙ ap₂ (λ (x y : ℕ). orderOf (compare x y)) (c .before .before .u64-in .ensures) (c .before .u64-in2 .ensures))
 
 pub dot-order-spec : {M : Type 1} → statement M
 dot-order-spec =

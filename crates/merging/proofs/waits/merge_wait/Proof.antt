@@ -1,11 +1,11 @@
 use native.Mathlib.Omega.{arith}
-use Rattle.merging.proofs.WaitSteps.{Turned, turned, Numbers, numbers, starts-small, merged-wait, put-size, put-one, clock-length}
+use Rattle.merging.proofs.WaitSteps.{Turned, turned, Numbers, numbers, starts-small, first-inside, merged-wait, put-size, put-one, clock-length}
 use borrow.Author.Needs.{needs}
 use Rattle.merging.proofs.waits.merge_wait.Statement.{statement}
 use Rattle.merging.proofs.waits.merge_wait.Tie as tie
 
 next-wait-requires : tie.Need-next-wait-requires
-next-wait-requires c κs = let h = c .before .before .before .pre .0 in let e = starts-small h in (h .more, e .0, e .1)
+next-wait-requires c κs = let h = c .before .before .before .pre .0 in (h .more, first-inside _ _ _ (h .left-inside), first-inside _ _ _ (h .right-inside))
 
 part-at-requires : tie.Need-part-at-requires
 part-at-requires c κs = starts-small (c .before .before .before .before .before .before .pre .0) .0

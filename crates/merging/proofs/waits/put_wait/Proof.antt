@@ -3,10 +3,13 @@ use native.Mathlib.Omega.{arith}
 use lib.ListN.{length}
 use lib.Seq.{length-sets}
 use Rattle.layout.specs.Fields.{Bytes}
-use Rattle.merging.proofs.WaitSteps.{cover-clock, put-none, put-united}
+use Rattle.merging.proofs.WaitSteps.{clock-inside, cover-clock, put-none, put-united}
 use borrow.Author.Needs.{needs}
 use Rattle.merging.proofs.waits.put_wait.Statement.{statement}
 use Rattle.merging.proofs.waits.put_wait.Tie as tie
+
+covered-requires : tie.Need-covered-requires
+covered-requires c κs = let p = c .before .before .before .before .before .pre in (clock-inside (p .0) (c .index .ensures .0 ∙ c .before .u32-at .ensures), p .2)
 
 returns : tie.Need-returns
 returns c = put-none _ _ _ _ _ _ (sym (cover-clock _ _ _ _ _ (c .before .before .index .ensures .0 ∙ c .before .before .before .u32-at .ensures) (c .before .covered .ensures)) ∙ c .if1 .taken)
@@ -43,6 +46,6 @@ returns-2 c =
 pub put-wait-spec : {M : Type 1} → statement M
 put-wait-spec =
     tie.close
-    (tie.spec (λ c κs. search needs) (λ c κs. search needs) (λ c. search needs) (λ c κs. search needs) returns
+    (tie.spec (λ c κs. search needs) (λ c κs. search needs) (λ c. search needs) covered-requires returns
     (λ c. search needs) (λ c. search needs) (λ c. search needs) (λ c κs. search needs) add-e add-unite unite-requires cast-put-u32 (λ c κs. search needs)
     add-t17 mul-t25 add-t26 same-length returns-2)

@@ -19,17 +19,17 @@ returns c = λ e. absurd (false≢true e)
 loop-holds : tie.Need-loop-holds Inv-loop μ-loop
 loop-holds c = match-begin _ _ _ _ _
 
-mul-u32-at : tie.Need-mul-u32-at Inv-loop μ-loop
-mul-u32-at c = let p = c .before .before .before .before .before .pre in let t = c .loop-test .taken in omega arith
+mul-u32-in : tie.Need-mul-u32-in Inv-loop μ-loop
+mul-u32-in c = let p = c .before .before .before .before .before .pre in let t = c .loop-test .taken in omega arith
 
-add-u32-at : tie.Need-add-u32-at Inv-loop μ-loop
-add-u32-at c = let p = c .before .before .before .before .before .pre in let t = c .loop-test .taken in omega arith
+add-u32-in : tie.Need-add-u32-in Inv-loop μ-loop
+add-u32-in c = let p = c .before .before .before .before .before .pre in let t = c .loop-test .taken in omega arith
 
-mul-u32-at-2 : tie.Need-mul-u32-at-2 Inv-loop μ-loop
-mul-u32-at-2 c = let p = c .before .before .before .before .before .before .pre in let t = c .before .loop-test .taken in omega arith
+mul-u32-in-2 : tie.Need-mul-u32-in-2 Inv-loop μ-loop
+mul-u32-in-2 c = let p = c .before .before .before .before .before .before .pre in let t = c .before .loop-test .taken in omega arith
 
-add-u32-at-2 : tie.Need-add-u32-at-2 Inv-loop μ-loop
-add-u32-at-2 c = let p = c .before .before .before .before .before .before .pre in let e = c .before .before .before .if1 .left in let t = c .before .loop-test .taken in omega arith
+add-u32-in-2 : tie.Need-add-u32-in-2 Inv-loop μ-loop
+add-u32-in-2 c = let p = c .before .before .before .before .before .before .pre in let e = c .before .before .before .if1 .left in let t = c .before .loop-test .taken in omega arith
 
 returns-2 : tie.Need-returns-2 Inv-loop μ-loop
 returns-2 c = λ e. absurd (false≢true e)
@@ -41,7 +41,7 @@ loop-less : tie.Need-loop-less Inv-loop μ-loop
 loop-less c = let t = c .before .before .before .loop-test .taken in omega arith
 
 loop-again : tie.Need-loop-again Inv-loop μ-loop
-loop-again c = match-on _ _ _ _ _ _ (c .before .before .before .loop-test .taken) (sym (c .before .before .u32-at .ensures) ∙ c .if2 .left ∙ c .before .u32-at2 .ensures) (c .before .before .before .before .loop .inv)
+loop-again c = match-on _ _ _ _ _ _ (c .before .before .before .loop-test .taken) (sym (c .before .before .u32-in .ensures) ∙ c .if2 .left ∙ c .before .u32-in2 .ensures) (c .before .before .before .before .loop .inv)
 
 returns-3 : tie.Need-returns-3 Inv-loop μ-loop
 returns-3 c = λ e. rw (← (c .before .before .if1 .left)) (match-end _ _ _ _ _ _ (c .loop-test .left) (c .before .loop .inv))
@@ -49,5 +49,5 @@ returns-3 c = λ e. rw (← (c .before .before .if1 .left)) (match-end _ _ _ _ _
 pub same-members-spec : {M : Type 1} → statement M
 same-members-spec =
     tie.close
-    (tie.spec Inv-loop μ-loop returns loop-holds mul-u32-at add-u32-at (λ c κs. search needs) mul-u32-at-2 add-u32-at-2
+    (tie.spec Inv-loop μ-loop returns loop-holds mul-u32-in add-u32-in (λ c κs. search needs) mul-u32-in-2 add-u32-in-2
     (λ c κs. search needs) returns-2 add-i loop-less loop-again returns-3)
