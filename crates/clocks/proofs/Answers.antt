@@ -14,16 +14,20 @@ use Rattle.dots.specs.declared.Dot.{Dot}
 use Rattle.dots.specs.declared.DotAnswer.{DotAnswer}
 use Rattle.dots.specs.Dot.{clocks, actorOf, dot, dot?, noDot}
 use Rattle.dots.specs.Calls.{incOf}
-use Rattle.dots.specs.Clock.{Clock, count, filled, merged, applied, resetBy, intersection, glb, gap}
+use Rattle.dots.specs.Clock.{Clock, count, covers, filled, merged, applied, resetBy, intersection, glb, gap}
 use Rattle.dots.specs.ClockLaws.{proper-dot}
+use Rattle.dots.specs.Covering.{coverOf, cover-is}
 use Rattle.dots.specs.Ruled.{same-zip, beyond-zip, glb-length, intersection-length, reset-length, applied-normal, applied-merged, applied-empty}
+use Rattle.places.specs.declared.Rule.{Rule}
+use Rattle.places.specs.declared.Rule.the-variants.{Larger, Smaller, Same, Beyond}
+use Rattle.places.specs.declared.Joined.{Joined}
+use Rattle.places.specs.Places.{joined}
+use Rattle.places.specs.Turn.{ruleOf}
+use Rattle.places.specs.Walked.{walked, walked-is}
 use Rattle.clocks.specs.declared.ClockAnswer.{ClockAnswer}
 use Rattle.clocks.specs.declared.VClock.{VClock}
-use Rattle.clocks.specs.declared.Rule.{Rule}
-use Rattle.clocks.specs.declared.Rule.the-variants.{Larger, Smaller, Same, Beyond}
 use Rattle.clocks.specs.VClock.{dotsOf, vclock, normalised, each, few, dots-normal, len-vclock, dots-vclock, vclock-normalised}
-use Rattle.clocks.specs.Walk.{ruleOf, zipped}
-use Rattle.clocks.specs.Calls.{clockAnswer, dotAnswer, unfit, dotCall, incCall, joinCall, applyCall, mergeCall, resetCall, intersectionCall, glbCall, dotAt}
+use Rattle.clocks.specs.Calls.{zipped, clockAnswer, dotAnswer, unfit, dotCall, incCall, joinCall, applyCall, mergeCall, resetCall, intersectionCall, glbCall, dotAt}
 
 -- ---- the places of a record
 
@@ -46,6 +50,19 @@ dot-gone (d ∷ l) (suc n) zero h = absurd (omega arith)
 dot-gone (d ∷ l) (suc n) (suc i) h = dot-gone l n i (omega arith)
 
 -- ---- two clocks under a rule
+
+-- the walk along both, in places
+pub zip-is : (r : Rule) (a b : VClock) → every normalised (a ∷ b ∷ []) ≡ true → (z : Joined) → z ≡ joined (walked (ruleOf r) (dotsOf a) (dotsOf b))
+    → _≡_ {A = VClock} (record { dots = z .dots; len = z .len }) (vclock (zipped r (dotsOf a) (dotsOf b)))
+unfolding vclock zipped joined
+zip-is r a b e z is =
+    let n = each a b e in
+    let w = walked-is (ruleOf r) (dotsOf a) (dotsOf b) (dots-normal a (n .0) .asc) (dots-normal b (n .1) .asc) in
+    let j = is ∙ ap joined w in
+    λ i. record { dots = j i .dots; len = j i .len }
+
+pub covers-is : (a b : VClock) → every normalised (a ∷ b ∷ []) ≡ true → (r : Bool) → r ≡ coverOf (dotsOf a) (dotsOf b) → r ≡ covers (dotsOf a) (dotsOf b)
+covers-is a b e r is = let n = each a b e in is ∙ cover-is (dotsOf a) (dotsOf b) (dots-normal a (n .0)) (dots-normal b (n .1))
 
 pub merge-join : (a b : VClock) → joinCall Larger a b ≡ mergeCall a b
 unfolding joinCall mergeCall zipped ruleOf merged

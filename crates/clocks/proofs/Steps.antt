@@ -1,26 +1,7 @@
--- One turn of a loop over the first n elements of a list, or over those from a place on.
-use Prim.Native.Nat.{ℕ, _+_, _≤_, _<_}
+-- One turn of a loop over places (from `places`), and what a branch on a callee's answer says.
 use mathlib.Core.Path.{_≡_, refl, sym, ap, _∙_}
 use mathlib.Core.Bool.{Bool, true, false, not, _&&_}
-use mathlib.Core.List.{List, [], _∷_, map}
-use native.Mathlib.Omega.{arith}
-use native.Mathlib.Numerals.{add-one}
-use lib.ListN.{length, take, drop, getD, length-take, drop-of-length-le, length-map}
-use lib.Seq.{slice, slice-cons, drop-cons}
-
-module _ {A : Type 0} where
-  pub ahead : (l : List A) (i n : ℕ) (d : A) → i < n → n ≤ length l → slice i n l ≡ getD l i d ∷ slice (i + 1) n l
-  ahead l i n d h k = rw add-one (slice-cons i n l d h k)
-
-  pub done : (l : List A) (i n : ℕ) → n ≤ i → slice i n l ≡ []
-  done l i n h = drop-of-length-le (take n l) {i = i} (simp length-take (omega arith))
-
-  pub rest : (l : List A) (i : ℕ) (d : A) → i < length l → drop i l ≡ getD l i d ∷ drop (i + 1) l
-  rest l i d h = rw add-one (drop-cons l i d h)
-
-  -- what owning an array of structs tells of its length
-  pub mapped : {B : Type 0} (f : A → B) (l : List A) (n : ℕ) → length (map f l) ≡ n → length l ≡ n
-  mapped f l n e = sym (length-map l f) ∙ e
+pub use Rattle.places.proofs.Steps.{ahead, done, rest, mapped}
 
 -- a test of a callee's answer b, which is s: what the branch says of b it says of s
 pub so : {b s v : Bool} → b ≡ s → b ≡ v → s ≡ v

@@ -6,13 +6,16 @@ use mathlib.Core.List.{List, [], _∷_}
 use lib.Dec.{eqb, ltb}
 use lib.ListN.{length}
 use Rattle.tables.specs.Table.{pick, every, isSome}
+use Rattle.tables.specs.Zip.{zip}
 use Rattle.tables.specs.Refusal.{Refusal, _if_, firstOf}
 use Rattle.dots.specs.declared.Dot.{Dot}
 use Rattle.dots.specs.declared.DotAnswer.{DotAnswer}
 use Rattle.dots.specs.declared.DotRange.{DotRange}
-use Rattle.dots.specs.Dot.{dot, noDot}
+use Rattle.dots.specs.Dot.{clocks, dot, noDot}
 use Rattle.dots.specs.Calls.{Standing, standing, means}
 use Rattle.dots.specs.Clock.{Clock, count, filled, covers, merged, applied, resetBy, intersection, glb, gap}
+use Rattle.places.specs.declared.Rule.{Rule}
+use Rattle.places.specs.Turn.{ruleOf}
 use Rattle.clocks.specs.declared.VClock.{VClock}
 use Rattle.clocks.specs.declared.CounterAnswer.{CounterAnswer}
 use Rattle.clocks.specs.declared.ClockAnswer.{ClockAnswer}
@@ -22,9 +25,7 @@ use Rattle.clocks.specs.declared.OpValidation.{OpValidation}
 use Rattle.clocks.specs.declared.OpValidation.the-variants.{Valid, Refused, Gap}
 use Rattle.clocks.specs.declared.Nth.{Nth}
 use Rattle.clocks.specs.declared.Nth.the-variants.{At, Past, Refused as NthRefused}
-use Rattle.clocks.specs.declared.Rule.{Rule}
 use Rattle.clocks.specs.VClock.{dotsOf, vclock, normalised}
-use Rattle.clocks.specs.Walk.{zipped}
 
 -- ---- refusals
 
@@ -93,7 +94,10 @@ intersectionCall a b = clockAnswer (firstOf (unfit (a ∷ b ∷ []) ∷ [])) (in
 unfoldable pub glbCall : VClock → VClock → ClockAnswer
 glbCall a b = clockAnswer (firstOf (unfit (a ∷ b ∷ []) ∷ [])) (glb (dotsOf a) (dotsOf b))
 
--- two clocks under a rule
+-- two clocks under a rule: what it makes of each actor's two counters, zeros dropped
+unfoldable pub zipped : Rule → Clock → Clock → Clock
+zipped r x y = zip clocks (λ a. ruleOf r) x y
+
 unfoldable pub joinCall : Rule → VClock → VClock → ClockAnswer
 joinCall r a b = clockAnswer (firstOf (unfit (a ∷ b ∷ []) ∷ crowded (zipped r (dotsOf a) (dotsOf b)) ∷ [])) (zipped r (dotsOf a) (dotsOf b))
 

@@ -22,6 +22,7 @@ use Rattle.dots.specs.Clock.{Clock, count, normal, covers, merged, applied, res
 use Rattle.dots.specs.ClockLaws.{clock-ext, merged-count, merged-normal, reset-count, reset-normal}
 use Rattle.dots.specs.ClockOrder.{merged-comm, merged-assoc, merged-self, SaysOf, compared-says}
 use Rattle.dots.specs.Ruled.{same, beyond, applied-normal, applied-count, applied-covered, glb-normal, glb-count, glb-length, intersection-normal, intersection-count, intersection-length, reset-length}
+use Rattle.places.specs.Places.{unused}
 use Rattle.clocks.specs.declared.VClock.{VClock}
 use Rattle.clocks.specs.declared.ClockAnswer.{ClockAnswer}
 use Rattle.clocks.specs.declared.ComparisonAnswer.{ComparisonAnswer}
@@ -29,7 +30,7 @@ use Rattle.clocks.specs.declared.OpValidation.{OpValidation}
 use Rattle.clocks.specs.declared.OpValidation.the-variants.{Valid, Refused, Gap}
 use Rattle.clocks.specs.declared.Nth.{Nth}
 use Rattle.clocks.specs.declared.Nth.the-variants.{At, Past, Refused as NthRefused}
-use Rattle.clocks.specs.VClock.{same-dots, dotsOf, vclock, unused, normalised, each, swapped, few, dots-normal, dots-vclock, vclock-dots, vclock-normalised}
+use Rattle.clocks.specs.VClock.{same-dots, dotsOf, vclock, normalised, each, swapped, few, dots-normal, dots-vclock, vclock-dots, vclock-normalised}
 use Rattle.clocks.specs.Calls.{unfit, crowded, clockAnswer, Compared, Validated, Placed, applyCall, mergeCall, resetCall, intersectionCall, glbCall, comparisonSays, compareCall, validationSays, nthSays}
 
 -- ---- one answer: any two answers that a promise allows are equal

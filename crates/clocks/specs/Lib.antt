@@ -1,4 +1,3 @@
 pub mod VClock
-pub mod Walk
 pub mod Calls
 pub mod Laws

@@ -15,6 +15,7 @@ use Rattle.dots.specs.Dot.{actorOf, clocks, noDot}
 use Rattle.dots.specs.Clock.{Clock, normal}
 use Rattle.dots.specs.ClockLaws.{normal-from, normal-to}
 use Rattle.dots.specs.Rising.{both-left, both-right, true-from}
+use Rattle.places.specs.Places.{unused}
 use Rattle.clocks.specs.declared.VClock.{VClock}
 
 -- the dots of a record: those of its first `len` places
@@ -24,9 +25,6 @@ dotsOf c = take (c .len) (c .dots)
 -- the record of a list of dots: they stand from place 0 on, and the other places are zero
 unfoldable pub vclock : Clock → VClock
 vclock l = record { dots = sets (replicate 16 noDot) 0 l; len = length l }
-
-unfoldable pub unused : Dot → Bool
-unused d = eqb (actorOf d) 0 && eqb (d .counter) 0
 
 -- "A clock is normalised: actors strictly ascending, no zero counter, a record's unused places zero"; and it has at most 16 actors
 unfoldable pub normalised : VClock → Bool

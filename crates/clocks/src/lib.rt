@@ -3,21 +3,17 @@
 ghost use mathlib.Core.Path.{_≡_};
 ghost use mathlib.Core.Bool.{true};
 ghost use mathlib.Core.List.{[], _∷_};
-ghost use Prim.Native.Nat.{_+_, _<_, _≤_, min};
-ghost use lib.Dec.{eqb};
-ghost use lib.ListN.{drop};
-ghost use Rattle.tables.specs.Table.{every, pick};
+ghost use Rattle.tables.specs.Table.{every};
 ghost use Rattle.dots.specs.Calls.{means, standing};
 ghost use Rattle.dots.specs.Clock.{applied, count, covers};
-ghost use Rattle.dots.specs.Rising.{rising};
-ghost use Rattle.clocks.specs.VClock.{dotsOf, vclock, unused, normalised};
-ghost use Rattle.clocks.specs.Walk.{ruleOf, zipped, HeadOf};
-ghost use Rattle.clocks.specs.Calls.{clockAnswer, getCall, dotCall, emptyCall, incCall, joinCall, applyCall, mergeCall, resetCall, intersectionCall, glbCall, comparisonSays, compareCall, concurrentCall, validationSays, validateOpCall, validateMergeCall, nthSays, nthCall};
+ghost use Rattle.clocks.specs.VClock.{dotsOf, vclock, normalised};
+ghost use Rattle.clocks.specs.Calls.{zipped, clockAnswer, getCall, dotCall, emptyCall, incCall, joinCall, applyCall, mergeCall, resetCall, intersectionCall, glbCall, comparisonSays, compareCall, concurrentCall, validationSays, validateOpCall, validateMergeCall, nthSays, nthCall};
 use dots::Actor;
 use dots::Comparison;
 use dots::Dot;
 use dots::DotAnswer;
 use dots::DotRange;
+use places::Rule;
 
 pub struct VClock {
     pub dots: [Dot; 16],
@@ -59,20 +55,6 @@ pub enum Nth {
     Refused,
 }
 
-// What becomes of an actor's two counters: the larger; the smaller; the counter where both are the same; the first where it is beyond the second.
-enum Rule {
-    Larger,
-    Smaller,
-    Same,
-    Beyond,
-}
-
-// The first of the dots ahead in a clock, as actor and counter. Where nothing is ahead, the actor is 2^32.
-struct Head {
-    key: u64,
-    value: u64,
-}
-
 impl VClock {
     // The clock of no dots.
     pub fn new() -> VClock
@@ -104,14 +86,8 @@ impl VClock {
     pub fn is_normalised(self) -> bool
         ensures { λ r. ⌜ r ≡ normalised self ⌝ }
     {
-        if self.len > 16 {
-            return false;
-        }
-        if self.ascending() {
-            self.clear_after()
-        } else {
-            false
-        }
+        let dots = self.dots;
+        places::normal(dots, self.len)
     }
 
     // The counter of an actor, 0 where it is missing. Refuses 3.
@@ -304,48 +280,6 @@ impl VClock {
         }
     }
 
-    // Whether the actors ascend strictly and no counter is zero.
-    fn ascending(self) -> bool
-        requires { ⌜ self .len ≤ 16 ⌝ }
-        ensures { λ r. ⌜ r ≡ rising 0 (dotsOf self) ⌝ }
-    {
-        let n = self.len;
-        let mut low: u64 = 0;
-        let mut i: usize = 0;
-        while i < n {
-            let d = self.dots[i];
-            let a = wide(d.actor.0);
-            if a < low {
-                return false;
-            }
-            if d.counter == 0 {
-                return false;
-            }
-            low = a + 1;
-            i += 1;
-        }
-        true
-    }
-
-    // Whether the places that are not in use are zero.
-    fn clear_after(self) -> bool
-        requires { ⌜ self .len ≤ 16 ⌝ }
-        ensures { λ r. ⌜ r ≡ every unused (drop (self .len) (self .dots)) ⌝ }
-    {
-        let mut i = self.len;
-        while i < 16 {
-            let d = self.dots[i];
-            if d.actor.0 != 0 {
-                return false;
-            }
-            if d.counter != 0 {
-                return false;
-            }
-            i += 1;
-        }
-        true
-    }
-
     fn both_normalised(a: VClock, b: VClock) -> bool
         ensures { λ r. ⌜ r ≡ every normalised (a ∷ b ∷ []) ⌝ }
     {
@@ -365,19 +299,10 @@ impl VClock {
 
     // The counter of an actor.
     fn counter(self, a: u32) -> u64
-        requires { ⌜ self .len ≤ 16 ⌝ }
         ensures { λ r. ⌜ r ≡ count (dotsOf self) a ⌝ }
     {
-        let len = self.len;
-        let mut i: usize = 0;
-        while i < len {
-            let d = self.dots[i];
-            if d.actor.0 == a {
-                return d.counter;
-            }
-            i += 1;
-        }
-        0
+        let dots = self.dots;
+        places::counter(dots, self.len, a)
     }
 
     // Both clocks under a rule. Refuses 3; then 6, on the finished result.
@@ -395,26 +320,14 @@ impl VClock {
         }
     }
 
-    // Whether the clock covers another: along its actors, with a place in the other.
+    // Whether the clock covers another.
     fn covers(self, other: VClock) -> bool
         requires { ⌜ every normalised (self ∷ other ∷ []) ≡ true ⌝ }
         ensures { λ r. ⌜ r ≡ covers (dotsOf self) (dotsOf other) ⌝ }
     {
-        let n = self.len;
-        let m = other.len;
-        let mut i: usize = 0;
-        let mut k: usize = 0;
-        while k < n {
-            let d = self.dots[k];
-            let low = wide(d.actor.0);
-            let h = first(other.dots[i % 16], i, m);
-            if d.counter < held(h, low) {
-                return false;
-            }
-            i = step(i, h.key, low);
-            k += 1;
-        }
-        i == m
+        let dots = self.dots;
+        let others = other.dots;
+        places::covers(dots, self.len, others, other.len)
     }
 }
 
@@ -437,93 +350,15 @@ fn by_covering(second: bool, first: bool) -> Comparison
     }
 }
 
-fn wide(x: u32) -> u64
-    ensures { λ r. ⌜ (r ≡ x) × (r < 4294967296) ⌝ }
-{
-    x as u64
-}
-
-fn ruled(rule: Rule, x: u64, y: u64) -> u64
-    ensures { λ r. ⌜ r ≡ ruleOf rule x y ⌝ }
-{
-    match rule {
-        Rule::Larger => if x < y { y } else { x },
-        Rule::Smaller => if x < y { x } else { y },
-        Rule::Same => if x == y { x } else { 0 },
-        Rule::Beyond => if x <= y { 0 } else { x },
-    }
-}
-
-// The head of a clock at place i of n, where d stands at place i.
-fn first(d: Dot, i: usize, n: usize) -> Head
-    ensures { λ r. ⌜ HeadOf d i n r ⌝ }
-{
-    if i < n {
-        Head {
-            key: wide(d.actor.0),
-            value: d.counter,
-        }
-    } else {
-        Head {
-            key: 4294967296,
-            value: 0,
-        }
-    }
-}
-
-fn lower(x: u64, y: u64) -> u64
-    ensures { λ r. ⌜ r ≡ min x y ⌝ }
-{
-    if x < y { x } else { y }
-}
-
-// The counter that a head has for an actor.
-fn held(h: Head, low: u64) -> u64
-    ensures { λ r. ⌜ r ≡ pick (eqb (h .key) low) (h .value) 0 ⌝ }
-{
-    if h.key == low { h.value } else { 0 }
-}
-
-// The place after an actor.
-fn step(i: usize, key: u64, low: u64) -> usize
-    requires { ⌜ i < 65536 ⌝ }
-    ensures { λ r. ⌜ r ≡ i + pick (eqb key low) 1 0 ⌝ }
-{
-    if key == low { i + 1 } else { i }
-}
-
 // Both clocks walked together: each actor with what the rule makes of its two counters, zeros dropped. The result's length may pass 16;
 // dots from place 16 on are counted and not stored.
 fn zip(rule: Rule, a: VClock, b: VClock) -> VClock
     requires { ⌜ every normalised (a ∷ b ∷ []) ≡ true ⌝ }
     ensures { λ r. ⌜ r ≡ vclock (zipped rule (dotsOf a) (dotsOf b)) ⌝ }
 {
-    let na = a.len;
-    let nb = b.len;
-    let total = na + nb;
-    let mut dots = [Dot {
-        actor: Actor(0),
-        counter: 0,
-    }; 16];
-    let mut n: usize = 0;
-    let mut i: usize = 0;
-    let mut j: usize = 0;
-    while i + j < total {
-        let p = first(a.dots[i % 16], i, na);
-        let q = first(b.dots[j % 16], j, nb);
-        let low = lower(p.key, q.key);
-        let v = ruled(rule, held(p, low), held(q, low));
-        if v != 0 {
-            if n < 16 {
-                dots[n] = Dot {
-                    actor: Actor(low as u32),
-                    counter: v,
-                };
-            }
-            n += 1;
-        }
-        i = step(i, p.key, low);
-        j = step(j, q.key, low);
-    }
-    VClock { dots, len: n }
+    let x = a.dots;
+    let y = b.dots;
+    let z = places::zip(rule, x, a.len, y, b.len);
+    let dots = z.dots;
+    VClock { dots, len: z.len }
 }

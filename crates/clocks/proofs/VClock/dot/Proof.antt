@@ -1,13 +1,9 @@
 use Rattle.tables.specs.Refusal.{firstOf}
-use Rattle.clocks.specs.VClock.{few}
 use Rattle.clocks.specs.Calls.{dotCall, dotAnswer}
 use Rattle.clocks.proofs.Steps.{so}
 use borrow.Author.Needs.{needs}
 use Rattle.clocks.proofs.VClock.dot.Statement.{statement}
 use Rattle.clocks.proofs.VClock.dot.Tie as tie
-
-counter-requires : tie.Need-counter-requires
-counter-requires c κs = few _ (so (c .before .is-normalised .ensures) (c .if1 .taken))
 
 returns : tie.Need-returns
 unfolding dotCall dotAnswer firstOf
@@ -18,4 +14,4 @@ unfolding dotCall dotAnswer firstOf
 returns-2 c = simp (so (c .before .before .is-normalised .ensures) (c .before .if1 .left), c .new2 .ensures)
 
 pub dot-spec : {M : Type 1} → statement M
-dot-spec = tie.close (tie.spec (λ c κs. search needs) counter-requires (λ c κs. search needs) (λ c κs. search needs) returns returns-2)
+dot-spec = tie.close (tie.spec (λ c κs. search needs) (λ c κs. search needs) (λ c κs. search needs) (λ c κs. search needs) returns returns-2)

@@ -1,13 +1,9 @@
 use Rattle.tables.specs.Refusal.{firstOf}
-use Rattle.clocks.specs.VClock.{few}
 use Rattle.clocks.specs.Calls.{getCall, counterAnswer}
 use Rattle.clocks.proofs.Steps.{so}
 use borrow.Author.Needs.{needs}
 use Rattle.clocks.proofs.VClock.get.Statement.{statement}
 use Rattle.clocks.proofs.VClock.get.Tie as tie
-
-counter-requires : tie.Need-counter-requires
-counter-requires c κs = few _ (so (c .before .is-normalised .ensures) (c .if1 .taken))
 
 returns : tie.Need-returns
 unfolding getCall counterAnswer firstOf
@@ -18,4 +14,4 @@ unfolding getCall counterAnswer firstOf
 returns-2 c = simp (so (c .before .is-normalised .ensures) (c .if1 .left))
 
 pub get-spec : {M : Type 1} → statement M
-get-spec = tie.close (tie.spec (λ c κs. search needs) counter-requires returns returns-2)
+get-spec = tie.close (tie.spec (λ c κs. search needs) (λ c κs. search needs) returns returns-2)

@@ -1,5 +1,5 @@
 use Rattle.tables.specs.Refusal.{firstOf}
-use Rattle.clocks.specs.VClock.{dotsOf, few}
+use Rattle.clocks.specs.VClock.{dotsOf}
 use Rattle.clocks.specs.Calls.{validateOpCall, validationSays}
 use native.Mathlib.Omega.{arith}
 use Rattle.clocks.proofs.Answers.{no-gap, a-gap}
@@ -11,9 +11,6 @@ use Rattle.clocks.proofs.VClock.validate_op.Tie as tie
 returns : tie.Need-returns
 unfolding validateOpCall validationSays firstOf
 returns c = simp (but (c .before .is-normalised .ensures) (c .if1 .taken))
-
-counter-requires : tie.Need-counter-requires
-counter-requires c κs = few _ (but (c .before .is-normalised .ensures) (c .if1 .left))
 
 returns-2 : tie.Need-returns-2
 unfolding validateOpCall validationSays firstOf
@@ -37,4 +34,4 @@ returns-4 c =
     simp (but (c .before .before .before .before .before .before .is-normalised .ensures) (c .before .before .before .before .before .if1 .left), no-gap (dotsOf (a .self)) (a .d) (omega arith))
 
 pub validate-op-spec : {M : Type 1} → statement M
-validate-op-spec = tie.close (tie.spec (λ c κs. search needs) returns counter-requires returns-2 (λ c. search needs) returns-3 returns-4)
+validate-op-spec = tie.close (tie.spec (λ c κs. search needs) returns (λ c κs. search needs) returns-2 (λ c. search needs) returns-3 returns-4)

@@ -1,6 +1,6 @@
 use borrow.Author.Tests.{eq-eqb, ne-eqb}
-use Rattle.clocks.proofs.held.Statement.{statement}
-use Rattle.clocks.proofs.held.Tie as tie
+use Rattle.places.proofs.held.Statement.{statement}
+use Rattle.places.proofs.held.Tie as tie
 
 returns : tie.Need-returns
 returns c = rw (eq-eqb _ _ (c .if1 .taken))

@@ -1,8 +1,8 @@
 use borrow.Author.Tests.{eq-eqb, ne-eqb}
 use native.Mathlib.Nat.{add-zero}
 use borrow.Author.Needs.{needs}
-use Rattle.clocks.proofs.step.Statement.{statement}
-use Rattle.clocks.proofs.step.Tie as tie
+use Rattle.places.proofs.step.Statement.{statement}
+use Rattle.places.proofs.step.Tie as tie
 
 returns : tie.Need-returns
 returns c = rw (eq-eqb _ _ (c .if1 .taken))
