@@ -1,8 +1,9 @@
-// Runs the calls on dots, clocks, text and contexts on good, bad and boundary values, and prints for each its refusal number and what it carries.
+// Runs the calls on dots, clocks, text, contexts and a clock held in place on good, bad and boundary values, and prints for each its refusal number and what it carries.
 // The file `stdout` beside this folder is written by hand from document 01, never by this program.
 mod clock_calls;
 mod dot_calls;
 mod edge_calls;
+mod in_place_calls;
 mod samples;
 mod say;
 
@@ -23,4 +24,7 @@ fn main() {
     edge_calls::crowded();
     edge_calls::texts();
     edge_calls::contexts();
+    in_place_calls::good();
+    in_place_calls::bad();
+    in_place_calls::crowded();
 }

@@ -61,16 +61,16 @@ module _ (T : Declared) (L : LL.Laws T) (P : Plains (fields T)) (ends : (d : T .
         (seq (assign (place 0 []) (rvOpd (copy (place 3 (field 0 ∷ []))))) return)));
   }
 
-  abbrev Answers : VClock → T .D → ClockAnswer → Type 0
+  abbrev pub Answers : VClock → T .D → ClockAnswer → Type 0
   Answers h d r = (r .no ≡ f h d .no) × (r .clock ≡ kept h (f h d))
 
-  abbrev step-ended : Ended
+  abbrev pub step-ended : Ended
   step-ended = record {
     signature = record { lifetimes = 0; outlives = []; params = plain (λ _. K.the-row) ∷ plain (λ _. row T) ∷ []; result = plain (λ _. R.the-row) };
     kept = (yes, (yes, tt));
   }
 
-  abbrev ended : Ended
+  abbrev pub ended : Ended
   ended = record {
     signature = record { lifetimes = 1; outlives = []; params = RefMutOf (0 ∷ []) tt (plain (λ _. K.the-row)) (λ _. tt) ∷ plain (λ _. row T) ∷ []; result = plain (λ _. u32) };
     kept = (yes, (yes, tt));
@@ -80,10 +80,10 @@ module _ (T : Declared) (L : LL.Laws T) (P : Plains (fields T)) (ends : (d : T .
   stayed = (stay-ref (0 ∷ []) tt (plain (λ _. K.the-row)), (stay-none (λ _. row T) yes, tt))
 
   module _ {M : Type 1} (𝓤 : URA M) where
-    abbrev step-clauses : Clauses 𝓤 step-ended
+    abbrev pub step-clauses : Clauses 𝓤 step-ended
     step-clauses κs a = record { ghost = Unit {0}; requires = λ _. emp 𝓤; ensures = λ _ r e. fact 𝓤 (Answers (a .0) (a .1 .0) r) }
 
-    abbrev clauses : Clauses 𝓤 ended
+    abbrev pub clauses : Clauses 𝓤 ended
     clauses κs a = record {
       ghost = Unit {0};
       requires = λ _. emp 𝓤;
