@@ -2,7 +2,7 @@
 use Prim.Native.Nat.{ℕ, suc, _+_, _-_, _*_, _≤_, _<_}
 use mathlib.Core.Path.{_≡_, refl, sym, _∙_}
 use mathlib.Core.Bool.{Bool, true, false, _&&_, and-false}
-use mathlib.Core.List.{List, _∷_}
+use mathlib.Core.List.{List, [], _∷_}
 use native.Mathlib.Omega.{arith}
 use native.Mathlib.Numerals.{add-one}
 use lib.Dec.{leb, eqb}
@@ -65,77 +65,97 @@ module _ (s : List ℕ) where
 
 -- ---- one dot
 
-module _ (s : List ℕ) (p : ℕ) (d : Dot) (line : ℕ) where
-  module _ (e : u32At s p ≡ actorOf d) (c : ℕ) (f : c ≡ u64At s (p + 4)) where
-    pub step-above : d .counter < c → _≡_ {A = ℕ} 2 (stepOf s p d line)
-    unfolding stepOf
-    step-above h = let k : d .counter < u64At s (p + 4) = omega arith in rw (eq-eqb (u32At s p) (actorOf d) e, lt-leb (u64At s (p + 4)) (d .counter) k)
-
-    pub step-under : c ≤ d .counter → c ≤ line → _≡_ {A = ℕ} 2 (stepOf s p d line)
-    unfolding stepOf
-    step-under h l =
-        let k : u64At s (p + 4) ≤ d .counter = omega arith in
-        let m : u64At s (p + 4) ≤ line = omega arith in
-        rw (eq-eqb (u32At s p) (actorOf d) e, le-leb (u64At s (p + 4)) (d .counter) k, le-ltb line (u64At s (p + 4)) m)
-
-    pub step-within : c ≤ d .counter → line < c → _≡_ {A = ℕ} 1 (stepOf s p d line)
-    unfolding stepOf
-    step-within h l =
-        let k : u64At s (p + 4) ≤ d .counter = omega arith in
-        let m : line < u64At s (p + 4) = omega arith in
-        rw (eq-eqb (u32At s p) (actorOf d) e, le-leb (u64At s (p + 4)) (d .counter) k, lt-ltb line (u64At s (p + 4)) m)
-
-  pub step-other : (u32At s p ≡ actorOf d → ⊥) → _≡_ {A = ℕ} 0 (stepOf s p d line)
+module _ (s : List ℕ) (p left : ℕ) (d : Dot) (line : ℕ) where
+  pub step-none : left ≡ 0 → _≡_ {A = ℕ} 0 (stepOf s p left d line)
   unfolding stepOf
-  step-other n = rw (ne-eqb (u32At s p) (actorOf d) n)
+  step-none z = rw (eq-eqb left 0 z)
+
+  module _ (l : 0 < left) where
+    some : eqb left 0 ≡ false
+    some = ne-eqb left 0 (λ z. omega arith)
+
+    pub step-some : stepOf s p left d line ≡ pick (eqb (u32At s p) (actorOf d)) (pick (within (u64At s (p + 4)) d line) 1 2) 0
+    unfolding stepOf
+    step-some = rw some
+
+    module _ (e : u32At s p ≡ actorOf d) (c : ℕ) (f : c ≡ u64At s (p + 4)) where
+      pub step-above : d .counter < c → _≡_ {A = ℕ} 2 (stepOf s p left d line)
+      step-above h = let k : d .counter < u64At s (p + 4) = omega arith in sym (step-some ∙ rw (eq-eqb (u32At s p) (actorOf d) e, lt-leb (u64At s (p + 4)) (d .counter) k))
+
+      pub step-under : c ≤ d .counter → c ≤ line → _≡_ {A = ℕ} 2 (stepOf s p left d line)
+      step-under h l =
+          let k : u64At s (p + 4) ≤ d .counter = omega arith in
+          let m : u64At s (p + 4) ≤ line = omega arith in
+          sym (step-some ∙ rw (eq-eqb (u32At s p) (actorOf d) e, le-leb (u64At s (p + 4)) (d .counter) k, le-ltb line (u64At s (p + 4)) m))
+
+      pub step-within : c ≤ d .counter → line < c → _≡_ {A = ℕ} 1 (stepOf s p left d line)
+      step-within h l =
+          let k : u64At s (p + 4) ≤ d .counter = omega arith in
+          let m : line < u64At s (p + 4) = omega arith in
+          sym (step-some ∙ rw (eq-eqb (u32At s p) (actorOf d) e, le-leb (u64At s (p + 4)) (d .counter) k, lt-ltb line (u64At s (p + 4)) m))
+
+    pub step-other : (u32At s p ≡ actorOf d → ⊥) → _≡_ {A = ℕ} 0 (stepOf s p left d line)
+    step-other n = sym (step-some ∙ rw (ne-eqb (u32At s p) (actorOf d) n))
 
 -- ---- a turn along v
+
+fits-empty : (t : List ℕ) (q : ℕ) (v : Clock) → fits t q v [] ≡ true
+unfolding fits
+fits-empty t q [] = refl
+fits-empty t q (x ∷ v) = refl
 
 module _ (t s : List ℕ) (v : List Dot) (n i q p left : ℕ) where
   abbrev ahead-fits : Bool
   ahead-fits = fits t q (slice i n v) (dotsAt s p left)
 
-  pub fits-end : n ≤ i → eqb left 0 ≡ ahead-fits
+  no-dots : left ≤ 0 → dotsAt s p left ≡ []
+  no-dots = list-end dotAt (λ s p. p + 12) s p left
+
+  first : 0 < left → dotsAt s p left ≡ dotAt s p ∷ dotsAt s (p + 12) (left - 1)
+  first l = list-step dotAt (λ s p. p + 12) s p left (left - 1) (omega arith)
+
+  pub fits-left : n ≤ i → 0 < left → false ≡ ahead-fits
   unfolding fits
-  fits-end h = by-lt 0 left
-      (λ k. rw (done v i n h, list-step dotAt (λ s p. p + 12) s p left (left - 1) (omega arith), ne-eqb left 0 (λ z. omega arith)))
-      (λ k. let z : left ≡ 0 = omega arith in rw (done v i n h, list-end dotAt (λ s p. p + 12) s p left k, eq-eqb left 0 z))
+  fits-left h l = rw (done v i n h, first l)
+
+  pub fits-end : left ≤ 0 → true ≡ ahead-fits
+  fits-end l = rw (no-dots l) (sym (fits-empty t q (slice i n v)))
 
   module _ (h : i < n) (k : n ≤ length v) where
-    pub fits-none : left ≤ 0 → true ≡ ahead-fits
-    unfolding fits
-    fits-none z = rw (ahead v i n noDot h k, list-end dotAt (λ s p. p + 12) s p left z)
+    abbrev d : Dot
+    d = getD v i noDot
 
-    module _ (l : 0 < left) where
-      first : dotsAt s p left ≡ dotAt s p ∷ dotsAt s (p + 12) (left - 1)
-      first = list-step dotAt (λ s p. p + 12) s p left (left - 1) (omega arith)
+    turn : 0 < left → ahead-fits ≡ pick (eqb (u32At s p) (actorOf d)) (within (u64At s (p + 4)) d (getD t q 0) && fits t (suc q) (slice (i + 1) n v) (dotsAt s (p + 12) (left - 1))) (fits t (suc q) (slice (i + 1) n v) (dotsAt s p left))
+    unfolding fits dotIn
+    turn l = rw (ahead v i n noDot h k, first l)
 
-      abbrev d : Dot
-      d = getD v i noDot
-
-      turn : ahead-fits ≡ pick (eqb (u32At s p) (actorOf d)) (within (u64At s (p + 4)) d (getD t q 0) && fits t (suc q) (slice (i + 1) n v) (dotsAt s (p + 12) (left - 1))) (fits t (suc q) (slice (i + 1) n v) (dotsAt s p left))
-      unfolding fits dotIn
-      turn = rw (ahead v i n noDot h k, first)
-
-      pub fits-refused : (one : ℕ) → one ≡ stepOf s p d (getD t q 0) → one ≡ 2 → false ≡ ahead-fits
-      unfolding stepOf
-      fits-refused one e y = sym (turn ∙ go (eqb (u32At s p) (actorOf d)) (within (u64At s (p + 4)) d (getD t q 0)) (sym e ∙ y))
+    module _ (one : ℕ) (e : one ≡ stepOf s p left d (getD t q 0)) where
+      pub fits-refused : one ≡ 2 → false ≡ ahead-fits
+      fits-refused y = by-lt 0 left
+          (λ l. sym (turn l ∙ go (eqb (u32At s p) (actorOf d)) (within (u64At s (p + 4)) d (getD t q 0)) (sym (step-some s p left d (getD t q 0) l) ∙ sym e ∙ y)))
+          (λ l. let z = step-none s p left d (getD t q 0) (omega arith) in absurd (omega arith))
         where
           go : (a w : Bool) → _≡_ {A = ℕ} (pick a (pick w 1 2) 0) 2 → pick a (w && fits t (suc q) (slice (i + 1) n v) (dotsAt s (p + 12) (left - 1))) (fits t (suc q) (slice (i + 1) n v) (dotsAt s p left)) ≡ false
           go true true u = absurd (omega arith)
           go true false u = refl
           go false w u = absurd (omega arith)
 
-      pub fits-turn : (one : ℕ) → one ≡ stepOf s p d (getD t q 0) → (one ≡ 2 → ⊥) → fits t (q + 1) (slice (i + 1) n v) (dotsAt s (p + 12 * one) (left - one)) ≡ ahead-fits
-      unfolding stepOf
-      fits-turn one e y = sym (turn ∙ go (eqb (u32At s p) (actorOf d)) (within (u64At s (p + 4)) d (getD t q 0)) e)
+      -- one dot on, where it was within; none, where there is none or it is of another actor
+      pub fits-turn : (one ≡ 2 → ⊥) → (one ≤ left) × (fits t (q + 1) (slice (i + 1) n v) (dotsAt s (p + 12 * one) (left - one)) ≡ ahead-fits)
+      fits-turn y = by-lt 0 left
+          (λ l. go l (eqb (u32At s p) (actorOf d)) (within (u64At s (p + 4)) d (getD t q 0)) (e ∙ step-some s p left d (getD t q 0) l) (turn l))
+          (λ l.
+          let z = step-none s p left d (getD t q 0) (omega arith) in
+          let x : p + 12 * one ≡ p = omega arith in
+          let w : left - one ≡ left = omega arith in
+          (omega arith, rw (x, w, no-dots l) (fits-empty t (q + 1) (slice (i + 1) n v) ∙ sym (fits-empty t q (slice i n v)))))
         where
-          go : (a w : Bool) → one ≡ pick a (pick w 1 2) 0
-              → pick a (w && fits t (suc q) (slice (i + 1) n v) (dotsAt s (p + 12) (left - 1))) (fits t (suc q) (slice (i + 1) n v) (dotsAt s p left))
-              ≡ fits t (q + 1) (slice (i + 1) n v) (dotsAt s (p + 12 * one) (left - one))
-          go true true g = let x : p + 12 * one ≡ p + 12 = omega arith in rw (x, g, add-one q)
-          go true false g = absurd (y g)
-          go false w g = let x : p + 12 * one ≡ p = omega arith in let z : left - one ≡ left = omega arith in rw (x, z, add-one q)
+          go : 0 < left → (a w : Bool) → one ≡ pick a (pick w 1 2) 0
+              → ahead-fits ≡ pick a (w && fits t (suc q) (slice (i + 1) n v) (dotsAt s (p + 12) (left - 1))) (fits t (suc q) (slice (i + 1) n v) (dotsAt s p left))
+              → (one ≤ left) × (fits t (q + 1) (slice (i + 1) n v) (dotsAt s (p + 12 * one) (left - one)) ≡ ahead-fits)
+          go l true true g r = let x : p + 12 * one ≡ p + 12 = omega arith in (omega arith, rw (x, g, add-one q) (sym r))
+          go l true false g r = absurd (y g)
+          go l false w g r = let x : p + 12 * one ≡ p = omega arith in let z : left - one ≡ left = omega arith in (omega arith, rw (x, z, add-one q) (sym r))
 
 -- ---- a turn over the entries
 

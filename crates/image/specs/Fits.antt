@@ -16,9 +16,9 @@ use Rattle.layout.specs.Kit.{Stands}
 abbrev pub within : ℕ → Dot → ℕ → Bool
 within c d line = leb c (d .counter) && ltb line c
 
--- the dot at p: of another actor than d, within, or not
-unfoldable pub stepOf : List ℕ → ℕ → Dot → ℕ → ℕ
-stepOf s p d line = pick (eqb (u32At s p) (actorOf d)) (pick (within (u64At s (p + 4)) d line) 1 2) 0
+-- the first of the dots left at p, if there is one: of another actor than d, within, or not
+unfoldable pub stepOf : List ℕ → ℕ → ℕ → Dot → ℕ → ℕ
+stepOf s p left d line = pick (eqb left 0) 0 (pick (eqb (u32At s p) (actorOf d)) (pick (within (u64At s (p + 4)) d line) 1 2) 0)
 
 -- each dot of a clock is one of v's actors, and within; number q of the table is the line's for the first actor
 unfoldable pub fits : List ℕ → ℕ → Clock → Clock → Bool

@@ -121,11 +121,15 @@ fn parts(s: &[u8]) -> Image
     }
 }
 
-// The dot at a place against d and the line: 0 where it is of another actor, 1 where d covers it and it is above the line, 2 where not.
-fn step(s: &[u8], p: usize, d: Dot, line: u64) -> usize
-    requires { ⌜ p + 12 ≤ length (now s) ⌝ }
-    ensures { λ r. ⌜ (r ≡ stepOf (now (s .entry)) p d line) × (r ≤ 2) ⌝ }
+// The first of the dots left at a place against d and the line: 0 where there is none or it is of another actor, 1 where d covers it and it is
+// above the line, 2 where not.
+fn step(s: &[u8], p: usize, left: usize, d: Dot, line: u64) -> usize
+    requires { ⌜ p + 12 * left ≤ length (now s) ⌝ }
+    ensures { λ r. ⌜ (r ≡ stepOf (now (s .entry)) p left d line) × (r ≤ 2) ⌝ }
 {
+    if left == 0 {
+        return 0;
+    }
     let here = &s[p..p + 12];
     if u32_at(here, 0) == d.actor.0 {
         let c = u64_at(here, 4);
@@ -138,30 +142,6 @@ fn step(s: &[u8], p: usize, d: Dot, line: u64) -> usize
     }
 }
 
-// Whether v covers the clock at a place, and each of its dots is above its number of the line from `from` on: one walk along v.
-fn row_fits(s: &[u8], at: usize, v: VClock, lines: &[u64], from: usize) -> bool
-    requires { ⌜ Stands (now s) at × (v .len ≤ 16) × (from + 16 ≤ length (now lines)) ⌝ }
-    ensures { λ r. ⌜ r ≡ fits (now (lines .entry)) from (dotsOf v) (clockAt (now (s .entry)) at) ⌝ }
-{
-    let n = v.len;
-    let mut p = at + 4;
-    let mut left = wide(u32_at(s, at));
-    let mut i: usize = 0;
-    while i < n {
-        if left == 0 {
-            return true;
-        }
-        let one = step(s, p, v.dots[i], lines[from + i]);
-        if one == 2 {
-            return false;
-        }
-        p += 12 * one;
-        left -= one;
-        i += 1;
-    }
-    left == 0
-}
-
 // Where the line of entry i stands: each has its own, or there is one for all.
 fn line_for(own: bool, i: usize) -> usize
     requires { ⌜ i < 64 ⌝ }
@@ -170,18 +150,32 @@ fn line_for(own: bool, i: usize) -> usize
     if own { 16 * i } else { 0 }
 }
 
-// The same for each of the n entries, with its own line or with one line for all.
+// Whether v covers each of the n entries at places, and each of their dots is above its number of the entry's line: one walk along v for each.
 fn entries_fit(s: &[u8], places: [u32; 64], n: usize, v: VClock, lines: &[u64], own: bool) -> bool
     requires { ⌜ (n ≤ 64) × (v .len ≤ 16) × (pick own 1024 16 ≤ length (now lines)) × EachStands (now s) places n ⌝ }
     ensures { λ r. ⌜ r ≡ fitAll (now (lines .entry)) (now (s .entry)) (dotsOf v) own 0 (take n places) ⌝ }
 {
+    let k = v.len;
     let mut i: usize = 0;
     while i < n {
-        if row_fits(s, wide(places[i]) + 4, v, lines, line_for(own, i)) {
-            i += 1;
-        } else {
+        let at = wide(places[i]) + 4;
+        let from = line_for(own, i);
+        let mut p = at + 4;
+        let mut left = wide(u32_at(s, at));
+        let mut j: usize = 0;
+        while j < k {
+            let one = step(s, p, left, v.dots[j], lines[from + j]);
+            if one == 2 {
+                return false;
+            }
+            p += 12 * one;
+            left -= one;
+            j += 1;
+        }
+        if 0 < left {
             return false;
         }
+        i += 1;
     }
     true
 }
