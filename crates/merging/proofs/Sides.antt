@@ -28,9 +28,9 @@ drop-here f es zero e rest p = (let l = ap length p in omega arith, ap (λ (l : 
 drop-here f [] (suc j) e rest p = let l = ap length p in absurd (omega arith)
 drop-here f (x ∷ es) (suc j) e rest p = let r = drop-here f es j e rest p in (let l = r .0 in omega arith, r .1)
 
-held-few : (s : List ℕ) (x : Image) → Held s x → length (imageOf s .entries) ≤ 64
+held-count : (s : List ℕ) (x : Image) → Held s x → length (imageOf s .entries) ≡ x .entries
 unfolding imageIn
-held-few s x H = let l = length-listAt rowAt rowEnd s (entriesStart s) (entriesCount s) in let n = H .number in let f = H .few in omega arith
+held-count s x H = length-listAt rowAt rowEnd s (entriesStart s) (entriesCount s) ∙ sym (H .number)
 
 -- the counters of the clock that stands at byte 24
 clock-counts : (s vs : List ℕ) (m n : ℕ) (va : List ℕ) → m ≡ u32At s 24 → Counts (dotsAt s 28 m) vs n va → Counts (imageOf s .clock) vs n va
@@ -39,20 +39,24 @@ clock-counts s vs m n va e c = rw e at c
 
 -- the lines of one side: actors vs, and k, the kill lines that its waiting removes have for the entries of the other, from its clock's counters va on
 module _ (v : VClock) (vs : List ℕ) (few : v .len ≤ 16) (rise : Rise dots (dotsOf v)) (long : length vs ≡ 16) (actors : take (v .len) vs ≡ map (λ d. actorOf d) (dotsOf v)) where
-  abbrev Killed : List ℕ → Image → List ℕ → Image → List ℕ → List ℕ → Type 0
-  Killed s x t y va k = k ≡ killTable (dotsOf v) (membersOf t (y .places) (y .entries)) (waitsOf s (x .starts) (x .waits)) va (replicate 1024 0)
+  -- where the other has none, no waiting remove counts
+  pub record Killed (s : List ℕ) (x : Image) (t : List ℕ) (y : Image) (va k : List ℕ) (counting : ℕ) : Type 0 where
+    pub all-count : 0 < y .entries → counting ≡ x .waits
+    pub table : k ≡ killTable (dotsOf v) (membersOf t (y .places) (y .entries)) (waitsOf s (x .starts) counting) va (replicate 1024 0)
 
-  lines-of : (s : List ℕ) (x : Image) (t : List ℕ) (y : Image) (va k : List ℕ) → length va ≡ 16 → Held s x → Held t y → Counts (imageOf s .clock) vs (v .len) va → Killed s x t y va k
+  lines-of : (s : List ℕ) (x : Image) (t : List ℕ) (y : Image) (va k : List ℕ) (counting : ℕ) → length va ≡ 16 → Held s x → Held t y → Counts (imageOf s .clock) vs (v .len) va → Killed s x t y va k counting
       → (j i : ℕ) (e : Entry) (rest : List Entry) → drop j (imageOf t .entries) ≡ e ∷ rest → i < v .len → getD k (16 * j + i) 0 ≡ lineOf (imageOf s) (e .member) (getD vs i 0)
   unfolding lineOf
-  lines-of s x t y va k wide H G c z j i e rest d h =
+  lines-of s x t y va k counting wide H G c z j i e rest d h =
       let ms = map (λ e. e .member) (imageOf t .entries) in
       let r = drop-here (λ e. e .member) (imageOf t .entries) j e rest d in
       let lm : length ms ≡ length (imageOf t .entries) = simp length-map in
       let n = clock-long v vs long few actors in
-      let m = held-few t y G in
+      let m = held-count t y G in
+      let few-entries = G .few in
       let l = r .0 in
-      ap (λ (l : List ℕ). getD l (16 * j + i) 0) (z ∙ ap₂ (λ (a : List ℕ) (b : List Wait). killTable (dotsOf v) a b va (replicate 1024 0)) (G .members) (H .waiting))
+      let all = z .all-count (omega arith) in
+      ap (λ (l : List ℕ). getD l (16 * j + i) 0) ((rw all at (z .table)) ∙ ap₂ (λ (a : List ℕ) (b : List Wait). killTable (dotsOf v) a b va (replicate 1024 0)) (G .members) (H .waiting))
       ∙ kill-numbers (dotsOf v) ms rise (G .rise) (omega arith) va (replicate 1024 0) wide (rw (length-replicate {A = ℕ} 1024 0) (omega arith)) (imageOf s .waiting) (H .ordered) j i (omega arith) (omega arith)
       ∙ ap₂ max (c .is i h) (ap₂ (killsOf (imageOf s .waiting)) (r .1) (sym (taken-at (λ d. actorOf d) refl (dotsOf v) vs (v .len) actors i h)))
 
@@ -71,13 +75,13 @@ module _ (v : VClock) (vs : List ℕ) (few : v .len ≤ 16) (rise : Rise dots (d
         lines = l;
       }
 
-  pub ready-of : (s : List ℕ) (x : Image) (t : List ℕ) (y : Image) (p q m k : ℕ) (va vb ka kb : List ℕ) → length va ≡ 16 → length vb ≡ 16 → Held s x → Held t y → p ≡ u32At s 8 → q ≡ u32At t 8
+  pub ready-of : (s : List ℕ) (x : Image) (t : List ℕ) (y : Image) (p q m k : ℕ) (va vb ka kb : List ℕ) (ca cb : ℕ) → length va ≡ 16 → length vb ≡ 16 → Held s x → Held t y → p ≡ u32At s 8 → q ≡ u32At t 8
       → Goes (map (λ d. actorOf d) (dotsOf v)) (imageOf s .entries) → Goes (map (λ d. actorOf d) (dotsOf v)) (imageOf t .entries)
-      → m ≡ u32At s 24 → k ≡ u32At t 24 → Counts (dotsAt s 28 m) vs (v .len) va → Counts (dotsAt t 28 k) vs (v .len) vb → Killed s x t y va ka → Killed t y s x vb kb
+      → m ≡ u32At s 24 → k ≡ u32At t 24 → Counts (dotsAt s 28 m) vs (v .len) va → Counts (dotsAt t 28 k) vs (v .len) vb → Killed s x t y va ka ca → Killed t y s x vb kb cb
       → Ready (imageOf s) (imageOf t) s p (x .entries) t q (y .entries) vs (v .len) ka kb
-  ready-of s x t y p q m k va vb ka kb wa wb H G ep eq ga gb em ek ca cb za zb = record {
-    ours = side-of s x p ka (imageOf t .entries) H ep ga (lines-of s x t y va ka wa H G (clock-counts s vs m (v .len) va em ca) za);
-    theirs = side-of t y q kb (imageOf s .entries) G eq gb (lines-of t y s x vb kb wb G H (clock-counts t vs k (v .len) vb ek cb) zb);
+  ready-of s x t y p q m k va vb ka kb na nb wa wb H G ep eq ga gb em ek ca cb za zb = record {
+    ours = side-of s x p ka (imageOf t .entries) H ep ga (lines-of s x t y va ka na wa H G (clock-counts s vs m (v .len) va em ca) za);
+    theirs = side-of t y q kb (imageOf s .entries) G eq gb (lines-of t y s x vb kb nb wb G H (clock-counts t vs k (v .len) vb ek cb) zb);
     few = few;
     long = omega arith;
   }

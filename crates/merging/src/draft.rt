@@ -93,6 +93,13 @@ pub(crate) fn capped(most: usize) -> u32
     if most < 33 { most as u32 } else { 33 }
 }
 
+// How many of the waiting removes count for n entries: all, or none where there are no entries.
+fn counting(n: usize, waits: usize) -> usize
+    ensures { λ r. ⌜ (0 < n → r ≡ waits) ⌝ }
+{
+    if n == 0 { 0 } else { waits }
+}
+
 // The entries that stay of two sides along the actors of v, written from `at` on. Each side's entries are judged by the other's clock and waiting
 // removes.
 pub(crate) fn keep_entries(
@@ -116,9 +123,11 @@ pub(crate) fn keep_entries(
     let xw = x.starts;
     let yw = y.starts;
     let mut ka = [0u64; 1024];
-    kills::kill_lines(b, ys, y.entries, a, xw, x.waits, v, va, &mut ka);
+    let xk = counting(y.entries, x.waits);
+    kills::kill_lines(b, ys, y.entries, a, xw, xk, v, va, &mut ka);
     let mut kb = [0u64; 1024];
-    kills::kill_lines(a, xs, x.entries, b, yw, y.waits, v, vb, &mut kb);
+    let yk = counting(x.entries, y.waits);
+    kills::kill_lines(a, xs, x.entries, b, yw, yk, v, vb, &mut kb);
     merge_entries(
         a,
         index(fields::u32_at(a, 8)),
