@@ -1,20 +1,51 @@
 -- A second side in bytes: one turn of the loop that writes its entries, and what its image is.
-use Prim.Native.Nat.{ℕ, _+_, _*_, _≤_, _<_}
-use mathlib.Core.Path.{_≡_, refl, sym, ap, _∙_}
-use mathlib.Core.List.{List, [], _∷_, _++_}
+use Prim.Native.Nat.{ℕ, zero, suc, _+_, _*_, _≤_, _<_}
+use mathlib.Core.Path.{_≡_, refl, sym, ap, ap₂, _∙_}
+use mathlib.Core.List.{List, [], _∷_, _++_, append-nil}
 use native.Mathlib.Omega.{arith}
 use native.Mathlib.Numerals.{add-one}
 use lib.ListN.{length, take, drop, set, getD, length-take, drop-of-length-le}
 use lib.Seq.{sets, slice-cons, length-sets, take-suc-set}
 use Rattle.tables.specs.Stores.{sets-append}
+use Rattle.dots.specs.declared.Dot.{Dot}
+use Rattle.dots.specs.Dot.{actorOf, noDot}
 use Rattle.dots.specs.Clock.{Clock}
+use Rattle.clocks.specs.declared.VClock.{VClock}
+use Rattle.clocks.specs.VClock.{dotsOf}
 use Rattle.replica.specs.Replica.{Entry}
+use Rattle.layout.specs.Fields.{le32, le64, length-le32}
 use Rattle.layout.specs.Lists.{startsAt, bytesOf}
-use Rattle.layout.specs.Rows.{encodeRow, encodeRows}
+use Rattle.layout.specs.Clock.{encodeDotIn, encodeClockIn}
+use Rattle.layout.specs.Rows.{encodeRowIn, encodeRow, encodeRows}
 use Rattle.layout.specs.Form.{steady-end}
 use Rattle.layout.specs.Kit.{starts-next, length-encodeRow}
 use Rattle.changing.specs.Brought.{brought}
 use Rattle.merging.specs.Side.{placesOf}
+
+-- ---- one entry
+
+-- where there is one, the clock is of one dot
+pub one-brought : (c : VClock) (n : ℕ) (ms : List ℕ) → length (c .dots) ≡ 16 → (0 < n → c .len ≡ 1) → brought (getD (c .dots) 0 noDot ∷ []) (take n ms) ≡ brought (dotsOf c) (take n ms)
+one-brought c zero ms long one = refl
+one-brought c (suc n) ms long one = ap (λ (k : Clock). brought k (take (suc n) ms)) (rw (one (omega arith)) (go (c .dots) (omega arith)))
+  where
+    go : (ds : List Dot) → 0 < length ds → getD ds 0 noDot ∷ [] ≡ take 1 ds
+    go [] h = absurd (omega arith)
+    go (d ∷ ds) h = refl
+
+pub one-row : (s₀ s₁ s₂ s₃ s₄ : List ℕ) (p member : ℕ) (d : Dot) → s₁ ≡ sets s₀ p (le32 member) → s₂ ≡ sets s₁ (p + 4) (le32 1) → s₃ ≡ sets s₂ (p + 8) (le32 (actorOf d)) → s₄ ≡ sets s₃ (p + 12) (le64 (d .counter))
+    → s₄ ≡ sets s₀ p (encodeRow (record { member = member; clock = d ∷ [] }))
+unfolding encodeRowIn encodeClockIn encodeDotIn bytesOf
+one-row s₀ s₁ s₂ s₃ s₄ p member d e₁ e₂ e₃ e₄ =
+    let dot = le32 (actorOf d) ++ le64 (d .counter) in
+    let q : p + 4 + 4 ≡ p + 8 = omega arith in
+    let r : p + 8 + 4 ≡ p + 12 = omega arith in
+    e₄ ∙ rw (e₃, e₂, e₁) (sym (
+    sets-append s₀ p (le32 member) (le32 1 ++ (dot ++ [])) ∙ ap (λ (k : ℕ). sets (sets s₀ p (le32 member)) (p + k) (le32 1 ++ (dot ++ []))) (length-le32 member)
+    ∙ sets-append (sets s₀ p (le32 member)) (p + 4) (le32 1) (dot ++ []) ∙ ap (λ (k : ℕ). sets (sets (sets s₀ p (le32 member)) (p + 4) (le32 1)) (p + 4 + k) (dot ++ [])) (length-le32 1)
+    ∙ ap₂ (λ (k : ℕ) (l : List ℕ). sets (sets (sets s₀ p (le32 member)) (p + 4) (le32 1)) k l) q (append-nil dot)
+    ∙ sets-append (sets (sets s₀ p (le32 member)) (p + 4) (le32 1)) (p + 8) (le32 (actorOf d)) (le64 (d .counter))
+    ∙ ap (λ (k : ℕ). sets (sets (sets (sets s₀ p (le32 member)) (p + 4) (le32 1)) (p + 8) (le32 (actorOf d))) k (le64 (d .counter))) (ap (λ (k : ℕ). p + 8 + k) (length-le32 (actorOf d)) ∙ r)))
 
 -- ---- the entries
 
