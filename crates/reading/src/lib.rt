@@ -2,7 +2,7 @@
 ghost use mathlib.Core.Path.{_≡_};
 ghost use mathlib.Core.List.{map};
 ghost use Prim.Native.Nat.{_<_, _≤_};
-ghost use lib.ListN.{take};
+ghost use lib.ListN.{length, take};
 ghost use lib.Seq.{sets};
 ghost use Rattle.replica.specs.Limits.{full};
 ghost use Rattle.layout.specs.Fields.{u32At};
@@ -41,7 +41,7 @@ pub fn contains(img: &[u8], member: Member) -> ReadAnswer
     if x.good {
         let add_clock = x.clock;
         let places = x.places;
-        let i = seat(img, places, x.entries, member.0);
+        let i = seat(img, &places, x.entries, member.0);
         if i < x.entries {
             let rm_clock = clock_at(img, wide(places[i]) + 4);
             let ctx = ReadCtx {
@@ -101,7 +101,7 @@ pub fn read(img: &[u8], out: &mut [u8]) -> MembersAnswer
             };
         }
         let places = x.places;
-        put_members(img, places, count, out);
+        put_members(img, &places, count, out);
         let add_clock = x.clock;
         let rm_clock = x.clock;
         let ctx = ReadCtx {
@@ -152,9 +152,9 @@ fn wide(x: u32) -> usize
 }
 
 // Which of the n entries at places is the member's; n where none is.
-fn seat(s: &[u8], places: [u32; 64], n: usize, member: u32) -> usize
-    requires { ⌜ n ≤ 64 ⌝ }
-    ensures { λ r. ⌜ r ≡ seatOf member (map (u32At (now (s .entry))) (take n places)) ⌝ }
+fn seat(s: &[u8], places: &[u32; 64], n: usize, member: u32) -> usize
+    requires { ⌜ (n ≤ 64) × (length (now places) ≡ 64) ⌝ }
+    ensures { λ r. ⌜ r ≡ seatOf member (map (u32At (now (s .entry))) (take n (now (places .entry)))) ⌝ }
 {
     let mut i: usize = 0;
     while i < n {
@@ -167,9 +167,9 @@ fn seat(s: &[u8], places: [u32; 64], n: usize, member: u32) -> usize
 }
 
 // Writes the members of the n entries at places, 4 bytes each.
-fn put_members(s: &[u8], places: [u32; 64], n: usize, out: &mut [u8])
-    requires { ⌜ n ≤ 64 ⌝ }
-    ensures { λ _. ⌜ now (out .exit) ≡ sets (now (out .entry)) 0 (encodeMembers (map (u32At (now (s .entry))) (take n places))) ⌝ }
+fn put_members(s: &[u8], places: &[u32; 64], n: usize, out: &mut [u8])
+    requires { ⌜ (n ≤ 64) × (length (now places) ≡ 64) ⌝ }
+    ensures { λ _. ⌜ now (out .exit) ≡ sets (now (out .entry)) 0 (encodeMembers (map (u32At (now (s .entry))) (take n (now (places .entry))))) ⌝ }
 {
     let mut i: usize = 0;
     while i < n {

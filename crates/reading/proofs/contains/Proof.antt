@@ -8,19 +8,19 @@ use Rattle.reading.proofs.contains.Statement.{statement}
 use Rattle.reading.proofs.contains.Tie as tie
 
 seat-requires : tie.Need-seat-requires
-seat-requires c κs = known _ _ (c .before .before .before .check .ensures) (c .before .before .if1 .taken) .few
+seat-requires c κs = let k = known _ _ (c .before .before .before .before .check .ensures) (c .before .before .before .if1 .taken) in (k .few, k .long)
 
 mul-wide : tie.Need-mul-wide
-mul-wide c = omega (arith, known _ _ (c .before .before .before .before .before .before .check .ensures) (c .before .before .before .before .before .if1 .taken) .few)
+mul-wide c = omega (arith, known _ _ (c .before .before .before .before .before .before .before .check .ensures) (c .before .before .before .before .before .before .if1 .taken) .few)
 
 array-read-wide : tie.Need-array-read-wide
-array-read-wide c = omega (arith, known _ _ (c .before .before .before .before .before .before .check .ensures) (c .before .before .before .before .before .if1 .taken) .few)
+array-read-wide c = omega (arith, known _ _ (c .before .before .before .before .before .before .before .check .ensures) (c .before .before .before .before .before .before .if1 .taken) .few)
 
 returns : tie.Need-returns
-returns c = held _ _ (known _ _ (c .before .before .before .before .before .before .before .before .check .ensures) (c .before .before .before .before .before .before .before .if1 .taken)) _ _ _ _ (c .before .before .before .before .seat .ensures) (c .before .before .if2 .taken) (c .before .wide .ensures .0) (c .clock-at .ensures)
+returns c = held _ _ (known _ _ (c .before .before .before .before .before .before .before .before .before .check .ensures) (c .before .before .before .before .before .before .before .before .if1 .taken)) _ _ _ _ (c .before .before .before .before .seat .ensures) (c .before .before .if2 .taken) (c .before .wide .ensures .0) (c .clock-at .ensures)
 
 returns-2 : tie.Need-returns-2
-returns-2 c = absent _ _ (known _ _ (c .before .before .before .before .before .before .before .check .ensures) (c .before .before .before .before .before .before .if1 .taken)) _ _ _ (c .before .before .before .seat .ensures) (omega arith) (c .new .ensures)
+returns-2 c = absent _ _ (known _ _ (c .before .before .before .before .before .before .before .before .check .ensures) (c .before .before .before .before .before .before .before .if1 .taken)) _ _ _ (c .before .before .before .seat .ensures) (omega arith) (c .new .ensures)
 
 returns-3 : tie.Need-returns-3
 returns-3 c = bad-contains _ (image-good _ _ (c .before .before .check .ensures) false (c .before .if1 .left) .0) _ (c .no-ctx .ensures) _

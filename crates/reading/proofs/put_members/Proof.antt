@@ -12,27 +12,27 @@ use Rattle.reading.proofs.put_members.Statement.{statement}
 use Rattle.reading.proofs.put_members.Tie as tie
 
 abbrev Inv-loop : tie.InvT-loop
-Inv-loop s n out₀ places i₀ out i =
+Inv-loop s places n out₀ i₀ out i =
     (i ≤ n) × (length out ≡ length out₀)
     × (sets out (4 * i) (encodeMembers (map (u32At s) (slice i n places))) ≡ sets out₀ 0 (encodeMembers (map (u32At s) (take n places))))
 
 abbrev μ-loop : tie.MeasureT-loop
-μ-loop s n out₀ places i₀ out i = n - i
+μ-loop s places n out₀ i₀ out i = n - i
 
 loop-holds : tie.Need-loop-holds Inv-loop μ-loop
 loop-holds c = (search needs, refl, refl)
 
 loop-again : tie.Need-loop-again Inv-loop μ-loop
 loop-again c =
-    let a = c .before .before .before .before .before .before .before .before .before .before .args in
-    let l = c .before .before .before .before .before .before .before .loop in
-    (search needs, search needs, put-next (a .s .now) (a .t2) (a .n) (l .i) (l .out) _ _ _ (omega arith) (omega arith) (c .before .before .before .before .wide .ensures .0) (c .before .before .before .u32-at .ensures) (c .before .before .put-u32 .ensures) ∙ l .inv .2)
+    let a = c .before .before .before .before .before .before .before .before .before .before .before .args in
+    let l = c .before .before .before .before .before .before .before .before .loop in
+    (search needs, search needs, put-next (a .s .now) (a .places .now) (a .n) (l .i) (l .out) _ _ _ (omega arith) (omega arith) (c .before .before .before .before .wide .ensures .0) (c .before .before .before .u32-at .ensures) (c .before .before .put-u32 .ensures) ∙ l .inv .2)
 
 returns : tie.Need-returns Inv-loop μ-loop
 returns c =
     let a = c .before .before .before .before .args in
     let l = c .before .loop in
-    sym (put-end (a .s .now) (a .t2) (a .n) (l .i) (l .out) (omega arith)) ∙ l .inv .2
+    sym (put-end (a .s .now) (a .places .now) (a .n) (l .i) (l .out) (omega arith)) ∙ l .inv .2
 
 pub put-members-spec : {M : Type 1} → statement M
 put-members-spec =

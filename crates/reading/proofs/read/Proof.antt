@@ -14,10 +14,10 @@ returns : tie.Need-returns
 returns c = read-short _ _ (known _ _ (c .before .before .before .check .ensures) (c .before .before .if1 .taken)) _ _ (c .no-ctx .ensures) (omega arith)
 
 put-members-requires : tie.Need-put-members-requires
-put-members-requires c κs = known _ _ (c .before .before .before .before .check .ensures) (c .before .before .before .if1 .taken) .few
+put-members-requires c κs = let k = known _ _ (c .before .before .before .before .before .check .ensures) (c .before .before .before .before .if1 .taken) in (k .few, k .long)
 
 returns-2 : tie.Need-returns-2
-returns-2 c = read-done _ _ (known _ _ (c .before .before .before .before .before .before .before .before .before .check .ensures) (c .before .before .before .before .before .before .before .before .if1 .taken)) _ _ (omega arith) (c .before .before .before .before .put-members .ensures)
+returns-2 c = read-done _ _ (known _ _ (c .before .before .before .before .before .before .before .before .before .before .check .ensures) (c .before .before .before .before .before .before .before .before .before .if1 .taken)) _ _ (omega arith) (c .before .before .before .before .put-members .ensures)
 
 returns-3 : tie.Need-returns-3
 returns-3 c = bad-read _ (image-good _ _ (c .before .before .check .ensures) false (c .before .if1 .left) .0) _ (c .no-ctx2 .ensures) _
