@@ -1,9 +1,9 @@
 // The calls of dots, clocks and contexts, which C doesn't have.
-ghost use mathlib.Core.Path.{_≡_};
-ghost use lib.ListN.{length};
+use crate::room::left;
+use crate::room::lent;
+use crate::room::zeros;
 use crate::text::bytes;
 use crate::text::field;
-use crate::text::holds;
 use crate::text::number;
 use crate::text::number_up_to;
 use crate::text::number32;
@@ -230,7 +230,7 @@ pub(crate) fn agrees(line: &[u8], call: ClockCall) -> bool {
     let m = bytes(field(line, 2), &mut second);
     let d = Dot::new(Actor(number32(field(line, 3))), number(field(line, 4)));
     let mut out = lent();
-    let room = number_up_to(field(line, 6), 1024);
+    let room = number_up_to(field(line, 6), 8192);
     let said = made(call, &first[..n], &second[..m], d, &mut out[..room]);
     let mut expected = zeros();
     let e = bytes(field(line, 9), &mut expected);
@@ -241,23 +241,4 @@ pub(crate) fn agrees(line: &[u8], call: ClockCall) -> bool {
         return false;
     }
     left(&out, &expected[..e])
-}
-
-// Room for what a field says.
-fn zeros() -> [u8; 1024]
-    ensures { λ r. ⌜ 1024 ≡ length r ⌝ }
-{
-    [0u8; 1024]
-}
-
-// An output that is full of one byte.
-fn lent() -> [u8; 1024]
-    ensures { λ r. ⌜ 1024 ≡ length r ⌝ }
-{
-    [165u8; 1024]
-}
-
-// Whether these bytes stand first in an output, and after them what was lent.
-fn left(out: &[u8; 1024], first: &[u8]) -> bool {
-    holds(out, first, 165)
 }

@@ -1,6 +1,7 @@
 // Replays stored answers of the Rust crate: makes each line's call and compares the answer and every byte of the output. Prints how many lines of each
 // call agree. oracle/write-answers wrote the two files, whose heads say how to read a line.
 mod clock_calls;
+mod room;
 mod set_calls;
 mod text;
 
@@ -117,158 +118,80 @@ fn say(name: &[u8], t: Tally) {
     io::write_all(STDOUT_FILENO, b" agree\n");
 }
 
+// A call over images.
+fn image_call(sum: Tally, name: &[u8], call: SetCall) -> Tally {
+    replay(sum, b"answers.txt", name, Call::Set(call))
+}
+
+// A call of dots or clocks.
+fn clock_call(sum: Tally, name: &[u8], call: ClockCall) -> Tally {
+    replay(sum, b"clock-answers.txt", name, Call::Clock(call))
+}
+
+fn dot_call(sum: Tally, name: &[u8], call: DotCall) -> Tally {
+    clock_call(sum, name, ClockCall::Dots(call))
+}
+
+fn one_call(sum: Tally, name: &[u8], call: OneCall) -> Tally {
+    clock_call(sum, name, ClockCall::One(call))
+}
+
+fn two_call(sum: Tally, name: &[u8], call: TwoCall) -> Tally {
+    clock_call(sum, name, ClockCall::Two(call))
+}
+
 // The calls that write an image.
 fn writes(start: Tally) -> Tally {
-    let file = b"answers.txt";
     let mut sum = start;
-    sum = replay(sum, file, b"empty", Call::Set(SetCall::Empty));
-    sum = replay(sum, file, b"add", Call::Set(SetCall::Add));
-    sum = replay(sum, file, b"remove", Call::Set(SetCall::Remove));
-    sum = replay(sum, file, b"merge", Call::Set(SetCall::Merge));
-    replay(sum, file, b"reset", Call::Set(SetCall::Reset))
+    sum = image_call(sum, b"empty", SetCall::Empty);
+    sum = image_call(sum, b"add", SetCall::Add);
+    sum = image_call(sum, b"remove", SetCall::Remove);
+    sum = image_call(sum, b"merge", SetCall::Merge);
+    image_call(sum, b"reset", SetCall::Reset)
 }
 
 // The calls that ask of an image, and those that judge.
 fn reads(start: Tally) -> Tally {
-    let file = b"answers.txt";
     let mut sum = start;
-    sum = replay(sum, file, b"check", Call::Set(SetCall::Check));
-    sum = replay(sum, file, b"contains", Call::Set(SetCall::Contains));
-    sum = replay(sum, file, b"read", Call::Set(SetCall::Read));
-    sum = replay(sum, file, b"clock", Call::Set(SetCall::Clock));
-    sum = replay(sum, file, b"validate_add", Call::Set(SetCall::ValidateAdd));
-    sum = replay(
-        sum,
-        file,
-        b"validate_remove",
-        Call::Set(SetCall::ValidateRemove),
-    );
-    replay(
-        sum,
-        file,
-        b"validate_merge",
-        Call::Set(SetCall::ValidateMerge),
-    )
+    sum = image_call(sum, b"check", SetCall::Check);
+    sum = image_call(sum, b"contains", SetCall::Contains);
+    sum = image_call(sum, b"read", SetCall::Read);
+    sum = image_call(sum, b"clock", SetCall::Clock);
+    sum = image_call(sum, b"validate_add", SetCall::ValidateAdd);
+    sum = image_call(sum, b"validate_remove", SetCall::ValidateRemove);
+    image_call(sum, b"validate_merge", SetCall::ValidateMerge)
 }
 
 // The calls of dots.
 fn dots(start: Tally) -> Tally {
-    let file = b"clock-answers.txt";
     let mut sum = start;
-    sum = replay(
-        sum,
-        file,
-        b"dot_inc",
-        Call::Clock(ClockCall::Dots(DotCall::Inc)),
-    );
-    sum = replay(
-        sum,
-        file,
-        b"dot_compare",
-        Call::Clock(ClockCall::Dots(DotCall::Compare)),
-    );
-    replay(
-        sum,
-        file,
-        b"ord_dot_compare",
-        Call::Clock(ClockCall::Dots(DotCall::OrdCompare)),
-    )
+    sum = dot_call(sum, b"dot_inc", DotCall::Inc);
+    sum = dot_call(sum, b"dot_compare", DotCall::Compare);
+    dot_call(sum, b"ord_dot_compare", DotCall::OrdCompare)
 }
 
 // The calls of one clock.
 fn clocks(start: Tally) -> Tally {
-    let file = b"clock-answers.txt";
     let mut sum = start;
-    sum = replay(
-        sum,
-        file,
-        b"clock_get",
-        Call::Clock(ClockCall::One(OneCall::Get)),
-    );
-    sum = replay(
-        sum,
-        file,
-        b"clock_is_empty",
-        Call::Clock(ClockCall::One(OneCall::IsEmpty)),
-    );
-    sum = replay(
-        sum,
-        file,
-        b"clock_inc",
-        Call::Clock(ClockCall::One(OneCall::Inc)),
-    );
-    sum = replay(
-        sum,
-        file,
-        b"clock_apply",
-        Call::Clock(ClockCall::One(OneCall::Apply)),
-    );
-    sum = replay(
-        sum,
-        file,
-        b"clock_validate_op",
-        Call::Clock(ClockCall::One(OneCall::ValidateOp)),
-    );
-    replay(
-        sum,
-        file,
-        b"clock_display",
-        Call::Clock(ClockCall::One(OneCall::Display)),
-    )
+    sum = one_call(sum, b"clock_get", OneCall::Get);
+    sum = one_call(sum, b"clock_is_empty", OneCall::IsEmpty);
+    sum = one_call(sum, b"clock_inc", OneCall::Inc);
+    sum = one_call(sum, b"clock_apply", OneCall::Apply);
+    sum = one_call(sum, b"clock_validate_op", OneCall::ValidateOp);
+    one_call(sum, b"clock_display", OneCall::Display)
 }
 
 // The calls of two clocks.
 fn pairs(start: Tally) -> Tally {
-    let file = b"clock-answers.txt";
     let mut sum = start;
-    sum = replay(
-        sum,
-        file,
-        b"clock_merge",
-        Call::Clock(ClockCall::Two(TwoCall::Merge)),
-    );
-    sum = replay(
-        sum,
-        file,
-        b"clock_reset_remove",
-        Call::Clock(ClockCall::Two(TwoCall::ResetRemove)),
-    );
-    sum = replay(
-        sum,
-        file,
-        b"clock_clone_without",
-        Call::Clock(ClockCall::Two(TwoCall::CloneWithout)),
-    );
-    sum = replay(
-        sum,
-        file,
-        b"clock_intersection",
-        Call::Clock(ClockCall::Two(TwoCall::Intersection)),
-    );
-    sum = replay(
-        sum,
-        file,
-        b"clock_glb",
-        Call::Clock(ClockCall::Two(TwoCall::Glb)),
-    );
-    sum = replay(
-        sum,
-        file,
-        b"clock_compare",
-        Call::Clock(ClockCall::Two(TwoCall::Compare)),
-    );
-    sum = replay(
-        sum,
-        file,
-        b"clock_concurrent",
-        Call::Clock(ClockCall::Two(TwoCall::Concurrent)),
-    );
-    replay(
-        sum,
-        file,
-        b"derive_add_ctx",
-        Call::Clock(ClockCall::Two(TwoCall::DeriveAddCtx)),
-    )
+    sum = two_call(sum, b"clock_merge", TwoCall::Merge);
+    sum = two_call(sum, b"clock_reset_remove", TwoCall::ResetRemove);
+    sum = two_call(sum, b"clock_clone_without", TwoCall::CloneWithout);
+    sum = two_call(sum, b"clock_intersection", TwoCall::Intersection);
+    sum = two_call(sum, b"clock_glb", TwoCall::Glb);
+    sum = two_call(sum, b"clock_compare", TwoCall::Compare);
+    sum = two_call(sum, b"clock_concurrent", TwoCall::Concurrent);
+    two_call(sum, b"derive_add_ctx", TwoCall::DeriveAddCtx)
 }
 
 fn main() {

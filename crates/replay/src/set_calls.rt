@@ -1,9 +1,9 @@
 // The calls over images, as C makes them.
-ghost use mathlib.Core.Path.{_≡_};
-ghost use lib.ListN.{length};
+use crate::room::left;
+use crate::room::lent;
+use crate::room::zeros;
 use crate::text::bytes;
 use crate::text::field;
-use crate::text::holds;
 use crate::text::members;
 use crate::text::number;
 use crate::text::number_up_to;
@@ -78,23 +78,4 @@ pub(crate) fn agrees(line: &[u8], call: SetCall) -> bool {
         return false;
     }
     left(&out, &expected[..e])
-}
-
-// Room for what a field says.
-fn zeros() -> [u8; 8192]
-    ensures { λ r. ⌜ 8192 ≡ length r ⌝ }
-{
-    [0u8; 8192]
-}
-
-// An output that is full of one byte.
-fn lent() -> [u8; 8192]
-    ensures { λ r. ⌜ 8192 ≡ length r ⌝ }
-{
-    [165u8; 8192]
-}
-
-// Whether these bytes stand first in an output, and after them what was lent.
-fn left(out: &[u8; 8192], first: &[u8]) -> bool {
-    holds(out, first, 165)
 }
