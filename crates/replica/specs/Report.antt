@@ -30,12 +30,12 @@ module _ (A B : Payload) where
   abbrev pub M : ℕ → ℕ → ℕ → Type 0
   M e c i = A .E e c i × B .E e c i
 
-  -- "M′ = {(e, c, i) ∈ E | c > B.v[i]}", "M″ = {(e, c, i) ∈ B.E | c > v[i]}"
+  -- "M′ = {(e, c, i) ∈ E \ B.E | c > B.v[i]}", "M″ = {(e, c, i) ∈ B.E \ E | c > v[i]}"
   abbrev pub M′ : ℕ → ℕ → ℕ → Type 0
-  M′ e c i = A .E e c i × (B .v i < c)
+  M′ e c i = A .E e c i × (B .E e c i → ⊥) × (B .v i < c)
 
   abbrev pub M″ : ℕ → ℕ → ℕ → Type 0
-  M″ e c i = B .E e c i × (A .v i < c)
+  M″ e c i = B .E e c i × (A .E e c i → ⊥) × (A .v i < c)
 
   -- "U = M ∪ M′ ∪ M″"
   abbrev pub U : ℕ → ℕ → ℕ → Type 0
@@ -64,14 +64,18 @@ all-clear A w m a n c ms e t = absurd (false≢true (ap isSome (sym (no-waits A 
 -- "U" in the words of the merge rule
 u-from : (A B : Replica) (e c i : ℕ) → U (payload A) (payload B) e c i → (0 < c) × (Brings A B e i c ⊎ Brings B A e i c)
 u-from A B e c i (inl m) = (m .0 .0, inl (m .0 .1, inl (m .1 .1)))
-u-from A B e c i (inr (inl m)) = (m .0 .0, inl (m .0 .1, inr (m .1)))
-u-from A B e c i (inr (inr m)) = (m .0 .0, inr (m .0 .1, inr (m .1)))
+u-from A B e c i (inr (inl m)) = (m .0 .0, inl (m .0 .1, inr (m .2)))
+u-from A B e c i (inr (inr m)) = (m .0 .0, inr (m .0 .1, inr (m .2)))
 
-u-to : (A B : Replica) (e c i : ℕ) → 0 < c → Brings A B e i c ⊎ Brings B A e i c → U (payload A) (payload B) e c i
-u-to A B e c i p (inl (x, inl y)) = inl ((p, x), (p, y))
-u-to A B e c i p (inl (x, inr y)) = inr (inl ((p, x), y))
-u-to A B e c i p (inr (x, inl y)) = inl ((p, y), (p, x))
-u-to A B e c i p (inr (x, inr y)) = inr (inr ((p, x), y))
+-- what v does not cover is not in E
+apart : (A : Replica) → Fine A → (e c i : ℕ) → payload A .v i < c → payload A .E e c i → ⊥
+apart A h e c i l p = let w = h .within e i in let q = p .1 in omega arith
+
+u-to : (A B : Replica) → Fine A → Fine B → (e c i : ℕ) → 0 < c → Brings A B e i c ⊎ Brings B A e i c → U (payload A) (payload B) e c i
+u-to A B h g e c i p (inl (x, inl y)) = inl ((p, x), (p, y))
+u-to A B h g e c i p (inl (x, inr y)) = inr (inl ((p, x), apart B g e c i y, y))
+u-to A B h g e c i p (inr (x, inl y)) = inl ((p, y), (p, x))
+u-to A B h g e c i p (inr (x, inr y)) = inr (inr ((p, x), apart A h e c i y, y))
 
 module _ (A B R : Replica) (h : Fine A) (g : Fine B) (r : Merged A B R) (wA : A .waiting ≡ []) (wB : B .waiting ≡ []) where
   u-counts : (e c i : ℕ) → U (payload A) (payload B) e c i → (0 < c) × (count (entry R e) i ≡ c)
@@ -87,7 +91,7 @@ module _ (A B R : Replica) (h : Fine A) (g : Fine B) (r : Merged A B R) (wA : A 
   counts-u e zero i p q = absurd (not-suc-le-zero p)
   counts-u e (suc n) i p q =
       let t : T (holds R e i (suc n)) = rw (eq-eqb (count (entry R e) i) (suc n) q) tt in
-      u-to A B e (suc n) i p ((live-from A B e i (suc n) (rw (r .holds-is e i n) at t)) .0)
+      u-to A B h g e (suc n) i p ((live-from A B e i (suc n) (rw (r .holds-is e i n) at t)) .0)
 
   pub report-elements : (e c i : ℕ) → payload R .E e c i ↔ merged-payload (payload A) (payload B) .E e c i
   report-elements e c i = (λ p. (counts-u e c i (p .0) (p .1), older p), λ u. u-counts e c i (u .0))
@@ -102,7 +106,3 @@ module _ (A B R : Replica) (h : Fine A) (g : Fine B) (r : Merged A B R) (wA : A 
   unfolding unite
   report-waiting = ext waits (R .waiting) [] (r .fine .waiting-ok) (record { asc = tt; proper = tt })
       (λ c. r .wait-is c ∙ rw (no-waits A wA c, no-waits B wB c) (pick-both (covers (R .clock) c) none))
-
--- M′ is the same if it is taken from E \ B.E: what B.v does not cover is not in B.E; and so M″
-pub apart : (B : Replica) → Fine B → (e c i : ℕ) → payload B .v i < c → payload B .E e c i → ⊥
-apart B g e c i l p = let w = g .within e i in let q = p .1 in omega arith
