@@ -26,7 +26,6 @@ use denote.Plain.{uint-lawful}
 use denote.Builtin.{u32}
 use denote.Ref.{RefT, MutRef}
 use denote.Lend.{lends-ref, ref-back}
-use denote.Signature.{plain}
 use denote.Steps.{only, owned, peeks, heard, nothing}
 use denote.Struct.Steps.{spelt}
 use denote.Struct.Struct.{layout, Plains}
