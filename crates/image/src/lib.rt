@@ -1,4 +1,4 @@
-// Replica images: the check of any bytes, in one pass over them, and what the calls go by.
+// Replica images: the check of any bytes, and what the calls go by.
 ghost use mathlib.Core.Path.{_≡_};
 ghost use mathlib.Core.Bool.{true};
 ghost use Prim.Native.Nat.{_+_, _*_, _<_, _≤_};

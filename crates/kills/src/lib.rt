@@ -34,7 +34,7 @@ fn at_most(n: usize, most: usize) -> usize
 }
 
 // The actors of v, each with its counter in the clock at a place. A clock that reaches past the end is read from a copy that does not.
-pub fn line_at(t: &[u8], at: u32, v: VClock) -> [Dot; 16]
+fn line_at(t: &[u8], at: u32, v: VClock) -> [Dot; 16]
     ensures { λ r. ⌜ numbers r ≡ lineOf (dotsOf v) (clockRead (now (t .entry)) at) ⌝ }
 {
     let q = wide(at);
