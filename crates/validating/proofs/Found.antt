@@ -28,7 +28,7 @@ use Rattle.checked.proofs.Known.{known}
 use Rattle.kills.specs.Laws.{along-is}
 use Rattle.kills.proofs.Steps.{taken}
 use Rattle.validating.specs.declared.Validation.the-variants.{BadFirst, BadSecond}
-use Rattle.validating.specs.Search.{Sight, sight, spotted, withCounts, sights, sightsBeside, sightsOf, verdict, Listed}
+use Rattle.validating.specs.Search.{Sight, sight, reportable as reportableBy, spotted, withCounts, sights, sightsBeside, sightsOf, verdict, Listed}
 use Rattle.validating.specs.Calls.{Validated, validationSays, validateMergeCall}
 
 mapped-append : {X Y : Type 0} (f : X → Y) (xs ys : List X) → map f (xs ++ ys) ≡ map f xs ++ map f ys
@@ -70,7 +70,7 @@ sights-all (o ∷ os) ts p q = ap₂ _++_ (beside-are o ts (p .0) q) (sights-all
 -- ---- the answer
 
 spotted-first : (xs : List Triple) → first (λ t. spotted (sightOf t)) xs ≡ first reportable xs
-unfolding spotted reportable
+unfolding spotted reportable reportableBy
 spotted-first xs = refl
 
 abbrev answerOf : Option Spent → Validated

@@ -30,7 +30,7 @@ use Rattle.layout.specs.Formed.{EntryFine}
 use Rattle.layout.specs.Checks.{passed}
 use Rattle.kills.specs.Lines.{reach}
 use Rattle.kills.specs.Laws.{along-is}
-use Rattle.validating.specs.Search.{spotted, sights, keyOf, keysOf, Listed, Keyed, Apart}
+use Rattle.validating.specs.Search.{reportable, spotted, sights, keyOf, keysOf, Listed, Keyed, Apart}
 use Rattle.validating.proofs.Steps.{Unspotted}
 use Rattle.validating.proofs.Found.{sightOf, sights-are}
 
@@ -99,7 +99,7 @@ all-of-map P f [] h = tt
 all-of-map P f (x ∷ xs) h = (h .0, all-of-map P f xs (h .1))
 
 unspotted-dot : (o t : Entry) (d : Dot) → (count (t .clock) (actorOf d) ≡ d .counter → ⊥) → spotted (sightOf (record { our = o; their = t; dot = d })) ≡ false
-unfolding spotted
+unfolding spotted reportable
 unspotted-dot o t d h = rw (ne-eqb (count (t .clock) (actorOf d)) (d .counter) h) (go (eqb (o .member) (t .member)))
   where
     go : (b : Bool) → (not b && false) ≡ false

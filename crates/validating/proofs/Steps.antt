@@ -25,7 +25,7 @@ use Rattle.kills.specs.Lines.{reach, along}
 use Rattle.kills.proofs.Steps.{skip-dot, stop-dot, end-dot, counted-none, counted-first, counted-other}
 use Rattle.validating.specs.declared.Validation.{Validation}
 use Rattle.validating.specs.declared.Validation.the-variants.{Valid, DoubleSpent}
-use Rattle.validating.specs.Search.{Sight, sight, spotted, withCounts, sights, sightsBeside, sightsOf, verdict, Listed, Walked, keyOf, keysOf}
+use Rattle.validating.specs.Search.{Sight, sight, reportable, spotted, sights, sightsBeside, sightsOf, spentIs, verdict, Listed, Walked, keyOf, keysOf}
 
 -- ---- the walk past an actor, with the dots from p on ahead
 
@@ -69,9 +69,9 @@ rising-next s p low n (suc k) r h =
     let y : p + 12 * (suc k + 1) ≡ p + 12 + 12 * (k + 1) = omega arith in
     rw (x, y) (rising-next s (p + 12) (u32At s p + 1) (n - 1) k (f .others) (omega arith))
 
-pub next-above : (s : List ℕ) (p n k actor : ℕ) → Stands s (p + 4) → n ≡ u32At s (p + 4) → actor ≡ u32At s (p + 8 + 12 * k) → k + 1 < n → actor < u32At s (p + 8 + 12 * (k + 1))
-unfolding clockIn
-next-above s p n k actor h e f l =
+pub next-above : (s : List ℕ) (p n k : ℕ) (d : Dot) → Stands s (p + 4) → n ≡ u32At s (p + 4) → d ≡ dotAt s (p + 8 + 12 * k) → k + 1 < n → actorOf d < u32At s (p + 8 + 12 * (k + 1))
+unfolding clockIn dotIn
+next-above s p n k d h e f l =
     let x : p + 4 + 4 ≡ p + 8 = omega arith in
     rw f (rising-next s (p + 8) 0 n k (rw (x, ← e) at (h .rises)) l)
 
@@ -95,10 +95,10 @@ keys-turn v s out missing n k at place left actor got x z others h r ea w ex =
     let f = along-later v (28 + 12 * (k + 1)) (n - (k + 1)) actor (reach dots actor (dotsAt s place left)) (dotsAt s z others) (λ l. rw ea (rising-next v 28 0 n k r (omega arith))) (w .later) in
     rw (list-step dotAt (λ s p. p + 12) v (28 + 12 * k) (n - k) (n - (k + 1)) (omega arith), ← ea, y, f, ← (w .counted), ← ex, g)
 
-pub keys-start : (v s out : List ℕ) (missing n at p left : ℕ) → left ≡ u32At s (p + 4) → atKeys v s out missing n 0 at (p + 8) left ≡ sets out at (keysOf missing (dotsAt v 28 n) (clockAt s (p + 4)))
+pub keys-start : (v s out : List ℕ) (missing n at p place left : ℕ) → place ≡ p + 8 → left ≡ u32At s (p + 4) → atKeys v s out missing n 0 at place left ≡ sets out at (keysOf missing (dotsAt v 28 n) (clockAt s (p + 4)))
 unfolding atKeys clockIn
-keys-start v s out missing n at p left e =
-    let x : p + 8 ≡ p + 4 + 4 = omega arith in
+keys-start v s out missing n at p place left f e =
+    let x : place ≡ p + 4 + 4 = omega arith in
     let y : at + 0 ≡ at = omega arith in
     let z : n - 0 ≡ n = omega arith in
     rw (x, y, z, e)
@@ -111,17 +111,6 @@ Unspotted xs = All (λ s. spotted s ≡ false) xs
 none-first : (xs ys : List Sight) → Unspotted xs → first spotted (xs ++ ys) ≡ first spotted ys
 none-first [] ys h = refl
 none-first (x ∷ xs) ys h = rw (h .0) (none-first xs ys (h .1))
-
--- a dot that both hold for the same member
-same-member : (m : ℕ) (ds : List Dot) (ns : List ℕ) → Unspotted (withCounts m m ds ns)
-unfolding spotted
-same-member m [] ns = tt
-same-member m (d ∷ ds) [] = tt
-same-member m (d ∷ ds) (n ∷ ns) = (rw (eq-eqb m m refl), same-member m ds ns)
-
-pub same-row : (s t : List ℕ) (p q our their : ℕ) → our ≡ u32At s p → their ≡ u32At t q → our ≡ their → Unspotted (sights (rowAt s p .member) (rowAt t q .member) (rowAt s p .clock) (rowAt t q .clock))
-unfolding rowIn
-same-row s t p q our their e f h = rw (← e, ← f, ← h) (same-member our (clockAt s (p + 4)) (along dots (map (λ d. actorOf d) (clockAt s (p + 4))) (clockAt t (q + 4))))
 
 module _ (a ours : List ℕ) (na : ℕ) (b theirs : List ℕ) (nb : ℕ) where
   abbrev they : List Entry
@@ -178,25 +167,24 @@ module _ (a ours : List ℕ) (na : ℕ) (b theirs : List ℕ) (nb : ℕ) where
           unfolding atActors atTheirs
           dot-end h = rw (list-end dotAt (λ s p. p + 12) a (p + 8 + 12 * k) (n - k) (omega arith))
 
-          module _ (actor counter z others got : ℕ) (h : k < n) (ea : actor ≡ u32At a (p + 8 + 12 * k)) (ec : counter ≡ u64At a (p + 8 + 12 * k + 4))
-              (up : k + 1 < n → actor < u32At a (p + 8 + 12 * (k + 1))) (w : Walked (dotsAt b y left) (dotsAt b z others) actor got) (ne : our ≡ their → ⊥) where
+          module _ (d : Dot) (z others got : ℕ) (h : k < n) (ed : d ≡ dotAt a (p + 8 + 12 * k)) (up : k + 1 < n → actorOf d < u32At a (p + 8 + 12 * (k + 1)))
+              (w : Walked (dotsAt b y left) (dotsAt b z others) (actorOf d) got) where
             abbrev ahead-here : List Sight
             ahead-here = sights our their (dotsAt a (p + 8 + 12 * (k + 1)) (n - (k + 1))) (dotsAt b z others) ++ (sightsBeside (rowAt a p) (map (rowAt b) (slice (j + 1) nb theirs)) ++ later i)
 
-            turn : sights our their (dotsAt a (p + 8 + 12 * k) (n - k)) (dotsAt b y left) ++ (sightsBeside (rowAt a p) (map (rowAt b) (slice (j + 1) nb theirs)) ++ later i) ≡ sight our their (dot actor counter) got ∷ ahead-here
-            unfolding dotIn
+            turn : sights our their (dotsAt a (p + 8 + 12 * k) (n - k)) (dotsAt b y left) ++ (sightsBeside (rowAt a p) (map (rowAt b) (slice (j + 1) nb theirs)) ++ later i) ≡ sight our their d got ∷ ahead-here
             turn =
                 let x : p + 8 + 12 * k + 12 ≡ p + 8 + 12 * (k + 1) = omega arith in
-                let f = along-later a (p + 8 + 12 * (k + 1)) (n - (k + 1)) actor (reach dots actor (dotsAt b y left)) (dotsAt b z others) (λ l. up (omega arith)) (w .later) in
-                rw (list-step dotAt (λ s p. p + 12) a (p + 8 + 12 * k) (n - k) (n - (k + 1)) (omega arith), ← ea, ← ec, x, f, ← (w .counted))
+                let f = along-later a (p + 8 + 12 * (k + 1)) (n - (k + 1)) (actorOf d) (reach dots (actorOf d) (dotsAt b y left)) (dotsAt b z others) (λ l. up (omega arith)) (w .later) in
+                rw (list-step dotAt (λ s p. p + 12) a (p + 8 + 12 * k) (n - k) (n - (k + 1)) (omega arith), ← ed, x, f, ← (w .counted))
 
-            pub dot-here : got ≡ counter → atActors i p our n j their k y left ≡ DoubleSpent (record { dot = dot actor counter; our = record { 0 = our }; their = record { 0 = their } })
+            pub dot-here : reportable our their (d .counter) got ≡ true → atActors i p our n j their k y left ≡ spentIs d our their
             unfolding atActors spotted
-            dot-here t = rw (turn, ne-eqb our their ne, eq-eqb got counter t)
+            dot-here t = rw (turn, t)
 
-            pub dot-next : (got ≡ counter → ⊥) → atActors i p our n j their k y left ≡ atActors i p our n j their (k + 1) z others
+            pub dot-next : reportable our their (d .counter) got ≡ false → atActors i p our n j their k y left ≡ atActors i p our n j their (k + 1) z others
             unfolding atActors spotted
-            dot-next t = rw (turn, ne-eqb our their ne, ne-eqb got counter t)
+            dot-next t = rw (turn, t)
 
 -- the clock of an entry at a place
 pub clock-at : (s places : List ℕ) (n i p : ℕ) → Listed s places n → i < n → p ≡ getD places i 0 → Stands s (p + 4)

@@ -30,8 +30,13 @@ pub record Sight : Type 0 where
 abbrev pub sight : ℕ → ℕ → Dot → ℕ → Sight
 sight o t d n = record { our = o; their = t; dot = d; reached = n }
 
+-- "Reported is a dot equal in an entry of ours and an entry of theirs with a different member": judged of both members, the dot's counter, and
+-- how far they count its actor
+unfoldable pub reportable : ℕ → ℕ → ℕ → ℕ → Bool
+reportable our their counter reached = not (eqb our their) && eqb reached counter
+
 unfoldable pub spotted : Sight → Bool
-spotted s = not (eqb (s .our) (s .their)) && eqb (s .reached) (s .dot .counter)
+spotted s = reportable (s .our) (s .their) (s .dot .counter) (s .reached)
 
 -- our dots, each with how far they count its actor
 abbrev pub withCounts : ℕ → ℕ → Clock → List ℕ → List Sight
@@ -51,10 +56,13 @@ abbrev pub sightsOf : List Entry → List Entry → List Sight
 sightsOf [] ts = []
 sightsOf (o ∷ os) ts = sightsBeside o ts ++ sightsOf os ts
 
+abbrev pub spentIs : Dot → ℕ → ℕ → Validation
+spentIs d our their = DoubleSpent (record { dot = d; our = record { 0 = our }; their = record { 0 = their } })
+
 -- what is answered of the first that is spotted
 abbrev pub verdict : Option Sight → Validation
 verdict none = Valid
-verdict (some s) = DoubleSpent (record { dot = s .dot; our = record { 0 = s .our }; their = record { 0 = s .their } })
+verdict (some s) = spentIs (s .dot) (s .our) (s .their)
 
 -- the n entries of a good image stand at places, each with its clock inside the bytes
 pub record Listed (s places : List ℕ) (n : ℕ) : Type 0 where

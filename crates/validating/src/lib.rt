@@ -9,10 +9,10 @@ ghost use lib.Seq.{sets};
 ghost use Rattle.dots.specs.Rising.{rising};
 ghost use Rattle.replica.specs.Validate.{first};
 ghost use Rattle.layout.specs.Fields.{u32At, u64At};
-ghost use Rattle.layout.specs.Clock.{dotsAt, clockAt};
+ghost use Rattle.layout.specs.Clock.{dotAt, dotsAt, clockAt};
 ghost use Rattle.layout.specs.Rows.{rowAt};
 ghost use Rattle.validating.specs.Calls.{validationSays, validateMergeCall};
-ghost use Rattle.validating.specs.Search.{spotted, sightsOf, verdict, keyOf, keysOf, Listed, Keyed, Apart, Walked};
+ghost use Rattle.validating.specs.Search.{reportable, spotted, sightsOf, spentIs, verdict, keyOf, keysOf, Listed, Keyed, Apart, Walked};
 use dots::Actor;
 use dots::Dot;
 use dots::Member;
@@ -77,41 +77,53 @@ fn u64_in(s: &[u8], at: usize) -> u64
     u64_at(&s[at..at + 8], 0)
 }
 
-// Their dots that may be of a later actor of ours, and how far they count the one that was asked for.
+// Dots that stand from a place on, and how far those before count the actor that was asked for.
 struct Ahead {
     place: usize,
     left: usize,
     count: u64,
 }
 
-// Walks along the dots from a place on, past those of an actor up to a. Where none is left, any place will do: one that is at hand.
-fn walk_past(s: &[u8], p: usize, left: usize, a: u32) -> Ahead
-    requires { ⌜ p + 12 * left ≤ length (now s) ⌝ }
-    ensures { λ r. ⌜ Walked (dotsAt (now (s .entry)) p left) (dotsAt (now (s .entry)) (r .place) (r .left)) a (r .count) × (r .place + 12 * r .left ≤ p + 12 * left) ⌝ }
+// The dots of the entry at a place.
+fn dots_of(s: &[u8], p: usize) -> Ahead
+    requires { ⌜ p + 8 ≤ length (now s) ⌝ }
+    ensures { λ r. ⌜ (r .place ≡ p + 8) × (r .left ≡ u32At (now (s .entry)) (p + 4)) ⌝ }
 {
-    let mut place = p;
-    let mut ahead = left;
-    while 0 < ahead {
+    Ahead {
+        place: p + 8,
+        left: wide(u32_in(s, p + 4)),
+        count: 0,
+    }
+}
+
+// Walks along the dots, past those of an actor up to a. Where none is left, any place will do: one that is at hand.
+fn walk_past(s: &[u8], from: Ahead, a: u32) -> Ahead
+    requires { ⌜ from .place + 12 * from .left ≤ length (now s) ⌝ }
+    ensures { λ r. ⌜ Walked (dotsAt (now (s .entry)) (from .place) (from .left)) (dotsAt (now (s .entry)) (r .place) (r .left)) a (r .count) × (r .place + 12 * r .left ≤ from .place + 12 * from .left) ⌝ }
+{
+    let mut place = from.place;
+    let mut left = from.left;
+    while 0 < left {
         let actor = u32_in(s, place);
         if a < actor {
             return Ahead {
                 place,
-                left: ahead,
+                left,
                 count: 0,
             };
         }
         if actor == a {
             return Ahead {
                 place: place + 12,
-                left: ahead - 1,
+                left: left - 1,
                 count: u64_in(s, place + 4),
             };
         }
         place += 12;
-        ahead -= 1;
+        left -= 1;
     }
     Ahead {
-        place: p,
+        place: from.place,
         left: 0,
         count: 0,
     }
@@ -133,14 +145,11 @@ fn put_keys(s: &[u8], p: usize, v: &[u8], n: usize, missing: u16, out: &mut [u16
     requires { ⌜ (p + 8 + 12 * u32At (now s) (p + 4) ≤ length (now s)) × (28 + 12 * n ≤ length (now v)) × (rising 0 (dotsAt (now v) 28 n) ≡ true) × (at + n ≤ length (now out)) ⌝ }
     ensures { λ _. ⌜ now (out .exit) ≡ sets (now (out .entry)) at (keysOf missing (dotsAt (now (v .entry)) 28 n) (clockAt (now (s .entry)) (p + 4))) ⌝ }
 {
-    let mut place = p + 8;
-    let mut left = wide(u32_at(s, p + 4));
+    let mut ahead = dots_of(s, p);
     let mut k: usize = 0;
     while k < n {
-        let r = walk_past(s, place, left, u32_in(v, 28 + 12 * k));
-        place = r.place;
-        left = r.left;
-        out[at + k] = key(r.count, missing);
+        ahead = walk_past(s, ahead, u32_in(v, 28 + 12 * k));
+        out[at + k] = key(ahead.count, missing);
         k += 1;
     }
 }
@@ -178,6 +187,37 @@ fn apart(ours: &[u16; 16], theirs: &[u16; 1024], j: usize) -> bool
     differ
 }
 
+// The dot at a place that lies inside.
+fn dot_in(s: &[u8], at: usize) -> Dot
+    requires { ⌜ at + 12 ≤ length (now s) ⌝ }
+    ensures { λ r. ⌜ r ≡ dotAt (now (s .entry)) at ⌝ }
+{
+    Dot {
+        actor: Actor(u32_in(s, at)),
+        counter: u64_in(s, at + 4),
+    }
+}
+
+// Whether a dot of our member with this counter, whose actor their member counts so far, is double-spent.
+fn reportable(our: u32, their: u32, counter: u64, reached: u64) -> bool
+    ensures { λ r. ⌜ r ≡ reportable our their counter reached ⌝ }
+{
+    if our == their {
+        return false;
+    }
+    reached == counter
+}
+
+fn double_spent(d: Dot, our: u32, their: u32) -> Validation
+    ensures { λ r. ⌜ r ≡ spentIs d our their ⌝ }
+{
+    Validation::DoubleSpent(Spent {
+        dot: d,
+        our: Member(our),
+        their: Member(their),
+    })
+}
+
 // The first double-spent dot of the entries at places of a and of b, or `Valid`. Only where a key is shared are the dots looked at:
 // a place in their clock moves along with our actors.
 fn first_spent(
@@ -207,27 +247,12 @@ fn first_spent(
             }
             let q = wide(theirs[j]);
             let their = u32_at(b, q);
-            if our == their {
-                continue 'theirs;
-            }
-            let mut y = q + 8;
-            let mut left = wide(u32_at(b, q + 4));
+            let mut ahead = dots_of(b, q);
             'actors: for k in 0..n {
-                let x = p + 8 + 12 * k;
-                let actor = u32_in(a, x);
-                let counter = u64_in(a, x + 4);
-                let r = walk_past(b, y, left, actor);
-                y = r.place;
-                left = r.left;
-                if r.count == counter {
-                    found = Validation::DoubleSpent(Spent {
-                        dot: Dot {
-                            actor: Actor(actor),
-                            counter,
-                        },
-                        our: Member(our),
-                        their: Member(their),
-                    });
+                let d = dot_in(a, p + 8 + 12 * k);
+                ahead = walk_past(b, ahead, d.actor.0);
+                if reportable(our, their, d.counter, ahead.count) {
+                    found = double_spent(d, our, their);
                     break 'search;
                 }
             }

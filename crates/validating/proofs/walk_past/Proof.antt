@@ -11,10 +11,11 @@ use Rattle.validating.proofs.walk_past.Statement.{statement}
 use Rattle.validating.proofs.walk_past.Tie as tie
 
 abbrev Inv-loop : tie.InvT-loop
-Inv-loop s p left a place₀ ahead₀ place ahead = (place + 12 * ahead ≡ p + 12 * left) × (reach dots a (dotsAt s p left) ≡ reach dots a (dotsAt s place ahead))
+Inv-loop s from a place₀ left₀ place left =
+    (place + 12 * left ≡ from .place + 12 * from .left) × (reach dots a (dotsAt s (from .place) (from .left)) ≡ reach dots a (dotsAt s place left))
 
 abbrev μ-loop : tie.MeasureT-loop
-μ-loop s p left a place₀ ahead₀ place ahead = ahead
+μ-loop s from a place₀ left₀ place left = left
 
 loop-holds : tie.Need-loop-holds Inv-loop μ-loop
 loop-holds c = (refl, refl)
