@@ -4,17 +4,17 @@ use mathlib.Core.Path.{_≡_, refl, sym, ap, ap₂, _∙_}
 use mathlib.Core.Bool.{Bool, true, false}
 use mathlib.Core.List.{List, [], _∷_, map}
 use native.Mathlib.Omega.{arith}
-use native.Mathlib.Nat.{add-zero, zero-add, add-assoc}
+use native.Mathlib.Nat.{add-zero, zero-add, add-assoc, zero-max}
 use native.Mathlib.Numerals.{add-one}
 use lib.Dec.{eqb}
-use lib.ListN.{length, take, drop, set, getD, replicate, drop-of-length-le, List·getD-map, List·getD-eq-default}
+use lib.ListN.{length, take, drop, set, getD, replicate, drop-of-length-le, List·getD-eq-default}
 use lib.Seq.{getD-set-same, getD-set-other, sets, slice, sets-eq, length-sets, take-all, take-at}
 use borrow.Author.Tests.{lt-ltb, le-ltb, eq-eqb, ne-eqb}
 use Rattle.tables.specs.Stores.{sets-append}
 use Rattle.tables.specs.Table.{pick}
-use Rattle.tables.specs.Zip.{said, by-lt}
+use Rattle.tables.specs.Zip.{Rows, said, by-lt}
 use Rattle.dots.specs.declared.Dot.{Dot}
-use Rattle.dots.specs.Dot.{dots, actorOf, noDot}
+use Rattle.dots.specs.Dot.{dots, dot, actorOf}
 use Rattle.dots.specs.Clock.{Clock}
 use Rattle.clocks.proofs.Steps.{ahead, done, rest}
 use Rattle.replica.specs.Replica.{memberRows}
@@ -23,9 +23,9 @@ use Rattle.layout.specs.Clock.{dotIn, dotAt, dotsAt, clockEnd, clockEndIn}
 use Rattle.layout.specs.Rows.{membersAt}
 use Rattle.fields.specs.Read.{clockRead}
 use Rattle.fields.proofs.Steps.{list-step, list-end}
-use Rattle.kills.specs.Lines.{reach, along, numbers, lineOf, raiseFrom, raised, topFrom, spread, killLines, waitRead}
-use Rattle.kills.specs.Posts.{Filled, Padded, UpTo, Founded}
-use Rattle.kills.specs.Laws.{raise-grows, length-raised, spread-front}
+use Rattle.kills.specs.Lines.{reach, along, lineOf, raiseFrom, raised, topFrom, spread, killLines, waitRead}
+use Rattle.kills.specs.Posts.{Filled, Padded, numbersBy, linesBy, UpTo, Founded}
+use Rattle.kills.specs.Laws.{length-along, raise-grows, length-raised, sets-cons, spread-front}
 
 -- ---- a padded copy
 
@@ -35,13 +35,13 @@ filled-turn t from i copy h f = record {
   high = λ j l. getD-set-other copy i j (getD t (from + i) 0) 0 (λ e. omega arith) ∙ f .high j (omega arith);
 }
 
+zeros : (n j : ℕ) → _≡_ {A = ℕ} (getD (replicate n 0) j 0) 0
+zeros zero j = refl
+zeros (suc n) zero = refl
+zeros (suc n) (suc j) = zeros n j
+
 pub filled-start : (t : List ℕ) (from n : ℕ) → Filled t from 0 (replicate n 0)
 filled-start t from n = record { low = λ j l. absurd (omega arith); high = λ j l. zeros n j }
-  where
-    zeros : (n j : ℕ) → _≡_ {A = ℕ} (getD (replicate n 0) j 0) 0
-    zeros zero j = refl
-    zeros (suc n) zero = refl
-    zeros (suc n) (suc j) = zeros n j
 
 past : (t : List ℕ) (j : ℕ) → length t ≤ j → getD t j 0 ≡ 0
 past t j h = List·getD-eq-default t 0 h
@@ -102,63 +102,56 @@ module _ (t : List ℕ) (k : ℕ) where
   pub counted-other : (p left : ℕ) → 0 < left → (u32At t p ≡ k → ⊥) → _≡_ {A = ℕ} 0 (said dots k (dotsAt t p left))
   counted-other p left h e = sym (said-first p left h ∙ rw (ne-eqb (u32At t p) k e))
 
--- ---- a line
-
-numbers-set : (l : List Dot) (i : ℕ) (d : Dot) → numbers (set l i d) ≡ set (numbers l) i (d .counter)
-numbers-set [] i d = refl
-numbers-set (x ∷ l) zero d = refl
-numbers-set (x ∷ l) (suc i) d = ap (λ (ns : List ℕ). x .counter ∷ ns) (numbers-set l i d)
-
-pub line-turn : (ds : List Dot) (n i a : ℕ) (d : Dot) (line rs rest : List Dot) → i < n → n ≤ length ds → a ≡ actorOf (getD ds i noDot) → reach dots a rs ≡ rest → d .counter ≡ said dots a rest
-    → sets (numbers (set line i d)) (i + 1) (along dots (map (λ d. actorOf d) (slice (i + 1) n ds)) rest) ≡ sets (numbers line) i (along dots (map (λ d. actorOf d) (slice i n ds)) rs)
-line-turn ds n i a d line rs rest h k e f g = rw (numbers-set line i d, ahead ds i n noDot h k, ← e, f, ← g, add-one)
-
-pub line-end : (ds : List Dot) (n i : ℕ) (line : List ℕ) (rs : List Dot) → n ≤ i → sets line i (along dots (map (λ d. actorOf d) (slice i n ds)) rs) ≡ line
-line-end ds n i line rs h = rw (done ds i n h)
-
-pub read-at : (v : Clock) (t : List ℕ) (at q n : ℕ) → q ≡ at → n ≡ min (u32At t q) 16 → lineOf v (dotsAt t (q + 4) n) ≡ lineOf v (clockRead t at)
+pub read-at : (t : List ℕ) (at q n : ℕ) → q ≡ at → n ≡ min (u32At t q) 16 → dotsAt t (q + 4) n ≡ clockRead t at
 unfolding clockRead
-read-at v t at q n e f = rw (f, e)
+read-at t at q n e f = rw (f, e)
 
 pub take-most : {A : Type 0} (l : List A) (n m k : ℕ) → length l ≡ m → k ≡ min n m → take k l ≡ take n l
 take-most l n m k h e = by-lt n m (λ q. let f : k ≡ n = omega arith in rw f) (λ q. take-all k l (omega arith) ∙ sym (take-all n l (omega arith)))
 
 -- ---- the table
 
-pub raise-turn : (out : List ℕ) (line : List Dot) (p q j : ℕ) → j < length line → q ≡ p + 1
-    → raiseFrom (set out p (max (getD out p 0) (getD line j noDot .counter))) q (numbers (drop (j + 1) line)) ≡ raiseFrom out p (numbers (drop j line))
-unfolding raiseFrom
-raise-turn out line p q j h e = rw (rest line j noDot h, e, add-one p)
+set-same : (t : List ℕ) (p x : ℕ) → (p < length t → x ≤ getD t p 0) → set t p (max (getD t p 0) x) ≡ t
+set-same [] p x h = refl
+set-same (y ∷ t) zero x h = let k = h (omega arith) in let e : max y x ≡ y = omega arith in ap (λ (z : ℕ). z ∷ t) e
+set-same (y ∷ t) (suc p) x h = ap (λ (l : List ℕ). y ∷ l) (set-same t p x (λ l. h (omega arith)))
 
-pub raise-end : (out : List ℕ) (line : List Dot) (p j : ℕ) → length line ≤ j → raiseFrom out p (numbers (drop j line)) ≡ out
+pub raise-turn : (out line : List ℕ) (p q j : ℕ) → j < length line → q ≡ p + 1
+    → raiseFrom (set out p (max (getD out p 0) (getD line j 0))) q (drop (j + 1) line) ≡ raiseFrom out p (drop j line)
+unfolding raiseFrom
+raise-turn out line p q j h e = rw (rest line j 0 h, e, add-one p)
+
+pub raise-end : (out line : List ℕ) (p j : ℕ) → length line ≤ j → raiseFrom out p (drop j line) ≡ out
 unfolding raiseFrom
 raise-end out line p j h = let e = drop-of-length-le line {i = j} h in rw e
 
+-- ---- one walk along keys and rows
+
+module _ (N : Rows) (ks : List ℕ) (n i : ℕ) (r : N .Row) (rs : List (N .Row)) where
+  along-turn : i < n → n ≤ length ks → getD ks i 0 ≤ N .key r → along N (slice i n ks) (r ∷ rs) ≡ said N (getD ks i 0) (r ∷ rs) ∷ along N (slice (i + 1) n ks) (r ∷ rs)
+  along-turn h k q = rw (ahead ks i n 0 h k, le-ltb (N .key r) (getD ks i 0) q)
+
+  pub along-stop : i < n → n ≤ length ks → N .key r < getD ks i 0 → along N (slice i n ks) rs ≡ along N (slice i n ks) (r ∷ rs)
+  along-stop h k q = rw (ahead ks i n 0 h k, lt-ltb (N .key r) (getD ks i 0) q)
+
+  pub along-end : n ≤ i → along N (slice i n ks) rs ≡ along N (slice i n ks) (r ∷ rs)
+  along-end h = rw (done ks i n h)
+
 -- ---- the lines of one member
 
-module _ (ms out line rs : List ℕ) (n i m : ℕ) where
-  abbrev by : List ℕ → List ℕ
-  by rows = raised out i (along memberRows (slice i n ms) rows) line
-
-  pub same-turn : (out′ : List ℕ) → i < n → n ≤ length ms → getD ms i 0 ≤ m → out′ ≡ pick (eqb m (getD ms i 0)) (raiseFrom out (16 * i) line) out
-      → raised out′ (i + 1) (along memberRows (slice (i + 1) n ms) (m ∷ rs)) line ≡ by (m ∷ rs)
-  unfolding raised
-  same-turn out′ h k q w = rw (ahead ms i n 0 h k, le-ltb m (getD ms i 0) q, flag (eqb m (getD ms i 0)), w, add-one)
-    where
-      flag : (b : Bool) → pick b true false ≡ b
-      flag true = refl
-      flag false = refl
-
-  pub same-stop : i < n → n ≤ length ms → m < getD ms i 0 → by rs ≡ by (m ∷ rs)
-  same-stop h k q = rw (ahead ms i n 0 h k, lt-ltb m (getD ms i 0) q)
-
-  pub same-end : n ≤ i → by rs ≡ by (m ∷ rs)
-  same-end h = rw (done ms i n h)
+pub same-turn : (ms line out out′ rs : List ℕ) (n i m : ℕ) → i < n → n ≤ length ms → getD ms i 0 ≤ m → out′ ≡ pick (eqb m (getD ms i 0)) (raiseFrom out (16 * i) line) out
+    → linesBy ms n line out′ (i + 1) (m ∷ rs) ≡ linesBy ms n line out i (m ∷ rs)
+unfolding raised
+same-turn ms line out out′ rs n i m h k q w = rw (along-turn memberRows ms n i m rs h k q, flag (eqb m (getD ms i 0)), w, add-one)
+  where
+    flag : (b : Bool) → pick b true false ≡ b
+    flag true = refl
+    flag false = refl
 
 -- ---- the lines of all members that stand from a place on
 
-pub named-turn : (t ms out out′ line : List ℕ) (n i r p left m : ℕ) → 0 < left → m ≡ u32At t p → UpTo ms n m line i out r out′
-    → raised out′ r (along memberRows (slice r n ms) (membersAt t (p + 4) (left - 1))) line ≡ raised out i (along memberRows (slice i n ms) (membersAt t p left)) line
+pub named-turn : (t ms out out′ line : List ℕ) (n i r p left m : ℕ) → 0 < left → m ≡ u32At t p → UpTo memberRows (linesBy ms n line) m i out r out′
+    → linesBy ms n line out′ r (membersAt t (p + 4) (left - 1)) ≡ linesBy ms n line out i (membersAt t p left)
 named-turn t ms out out′ line n i r p left m h e u =
     let f : membersAt t p left ≡ m ∷ membersAt t (p + 4) (left - 1) = rw e (list-step u32At (λ s p. p + 4) t p left (left - 1) (omega arith)) in
     rw f (u .same (membersAt t (p + 4) (left - 1)))
@@ -168,27 +161,56 @@ unfolding raised
 none-raised out line i [] = refl
 none-raised out line i (k ∷ ks) = none-raised out line (suc i) ks
 
-pub named-end : (t ms out line : List ℕ) (n i p left : ℕ) → left ≤ 0 → raised out i (along memberRows (slice i n ms) (membersAt t p left)) line ≡ out
+pub named-end : (t ms out line : List ℕ) (n i p left : ℕ) → left ≤ 0 → linesBy ms n line out i (membersAt t p left) ≡ out
 named-end t ms out line n i p left h = rw (list-end u32At (λ s p. p + 4) t p left h) (none-raised out line i (slice i n ms))
 
--- ---- the members at places
+-- ---- the numbers of one actor
 
-module _ (s places : List ℕ) (n : ℕ) where
-  pub members-turn : (ms : List ℕ) (i x : ℕ) → i < n → n ≤ length places → x ≡ u32At s (getD places i 0)
-      → sets (set ms i x) (i + 1) (map (λ q. u32At s q) (slice (i + 1) n places)) ≡ sets ms i (map (λ q. u32At s q) (slice i n places))
-  members-turn ms i x h k e = rw (ahead places i n 0 h k, ← e, add-one)
+pub number-turn : (actors line line′ : List ℕ) (ds : List Dot) (n i a x : ℕ) → i < n → n ≤ length actors → getD actors i 0 ≤ a
+    → line′ ≡ set line i (max (getD line i 0) (pick (eqb a (getD actors i 0)) x 0)) → numbersBy actors n line′ (i + 1) (dot a x ∷ ds) ≡ numbersBy actors n line i (dot a x ∷ ds)
+unfolding raiseFrom
+number-turn actors line line′ ds n i a x h k q w = rw (along-turn dots actors n i (dot a x) ds h k q, w, add-one)
 
-  pub members-end : (ms : List ℕ) (i : ℕ) → n ≤ i → sets ms i (map (λ q. u32At s q) (slice i n places)) ≡ ms
-  members-end ms i h = rw (done places i n h)
+pub number-met : (line : List ℕ) (i a b x y : ℕ) → a ≡ b → y ≡ max (getD line i 0) x → set line i y ≡ set line i (max (getD line i 0) (pick (eqb a b) x 0))
+number-met line i a b x y e f = rw (eq-eqb a b e, f)
+
+pub number-kept : (line : List ℕ) (i a b x : ℕ) → (a ≡ b → ⊥) → line ≡ set line i (max (getD line i 0) (pick (eqb a b) x 0))
+number-kept line i a b x e = rw (ne-eqb a b e) (sym (set-same line i 0 (λ h. omega arith)))
+
+-- ---- the numbers of all actors of the dots that stand from a place on
+
+pub dots-turn : (t actors line line′ : List ℕ) (n i r p left a x : ℕ) → 0 < left → a ≡ u32At t p → x ≡ u64At t (p + 4) → UpTo dots (numbersBy actors n) (dot a x) i line r line′
+    → numbersBy actors n line′ r (dotsAt t (p + 12) (left - 1)) ≡ numbersBy actors n line i (dotsAt t p left)
+unfolding dotIn
+dots-turn t actors line line′ n i r p left a x h e f u =
+    let g : dotsAt t p left ≡ dot a x ∷ dotsAt t (p + 12) (left - 1) = rw (e, f) (list-step dotAt (λ s p. p + 12) t p left (left - 1) (omega arith)) in
+    rw g (u .same (dotsAt t (p + 12) (left - 1)))
+
+none-counted : (line : List ℕ) (i : ℕ) (ks : List ℕ) → raiseFrom line i (along dots ks []) ≡ line
+unfolding raiseFrom
+none-counted line i [] = refl
+none-counted line i (k ∷ ks) = ap (λ (l : List ℕ). raiseFrom l (suc i) (along dots ks [])) (set-same line i 0 (λ h. omega arith)) ∙ none-counted line (suc i) ks
+
+pub dots-end : (t actors line : List ℕ) (n i p left : ℕ) → left ≤ 0 → numbersBy actors n line i (dotsAt t p left) ≡ line
+dots-end t actors line n i p left h = rw (list-end dotAt (λ s p. p + 12) t p left h) (none-counted line i (slice i n actors))
+
+-- ---- the actors of a clock, and the members at places
+
+module _ {A : Type 0} (f : A → ℕ) (none : A) (l : List A) (n : ℕ) where
+  pub each-turn : (out : List ℕ) (i x : ℕ) → i < n → n ≤ length l → x ≡ f (getD l i none) → sets (set out i x) (i + 1) (map f (slice (i + 1) n l)) ≡ sets out i (map f (slice i n l))
+  each-turn out i x h k e = rw (ahead l i n none h k, ← e, add-one)
+
+  pub each-end : (out : List ℕ) (i : ℕ) → n ≤ i → sets out i (map f (slice i n l)) ≡ out
+  each-end out i h = rw (done l i n h)
 
 pub taken : (z xs : List ℕ) (n : ℕ) → length xs ≡ n → n ≤ length z → take n (sets z 0 xs) ≡ xs
 taken z xs n e h = rw (sets-eq xs z 0 (omega arith)) (take-at xs (drop (0 + length xs) z) n e)
 
 -- ---- the floor
 
-pub under-turn : (line : List Dot) (floor : List ℕ) (j : ℕ) → ((i : ℕ) → i < j → getD (numbers line) i 0 ≤ getD floor i 0) → getD line j noDot .counter ≤ getD floor j 0
-    → (i : ℕ) → i < j + 1 → getD (numbers line) i 0 ≤ getD floor i 0
-under-turn line floor j h k i l = by-lt i j (λ q. h i q) (λ q. let e : i ≡ j = omega arith in rw (e, List·getD-map (λ d. d .counter) line j noDot) k)
+pub under-turn : (line floor : List ℕ) (j : ℕ) → ((i : ℕ) → i < j → getD line i 0 ≤ getD floor i 0) → getD line j 0 ≤ getD floor j 0
+    → (i : ℕ) → i < j + 1 → getD line i 0 ≤ getD floor i 0
+under-turn line floor j h k i l = by-lt i j (λ q. h i q) (λ q. let e : i ≡ j = omega arith in rw e k)
 
 pub lay-turn : (out floor : List ℕ) (p q j : ℕ) → j < length floor → q ≡ p + 1 → sets (set out p (getD floor j 0)) q (drop (j + 1) floor) ≡ sets out p (drop j floor)
 lay-turn out floor p q j h e = rw (rest floor j 0 h, e, add-one p)
@@ -208,11 +230,6 @@ unfolding spread
 spread-end out floor p n i h = let e : n - i ≡ 0 = omega arith in rw e
 
 -- a table that is nowhere below a line is not raised by it
-
-set-same : (t : List ℕ) (p x : ℕ) → (p < length t → x ≤ getD t p 0) → set t p (max (getD t p 0) x) ≡ t
-set-same [] p x h = refl
-set-same (y ∷ t) zero x h = let k = h (omega arith) in let e : max y x ≡ y = omega arith in ap (λ (z : ℕ). z ∷ t) e
-set-same (y ∷ t) (suc p) x h = ap (λ (l : List ℕ). y ∷ l) (set-same t p x (λ l. h (omega arith)))
 
 raise-none : (t : List ℕ) (p : ℕ) (xs : List ℕ) → ((j : ℕ) → j < length xs → p + j < length t → getD xs j 0 ≤ getD t (p + j) 0) → raiseFrom t p xs ≡ t
 unfolding raiseFrom
@@ -255,6 +272,28 @@ founded-spread t t′ floor n l e =
     let s : length t′ ≡ length t = ap length e ∙ length-sets t 0 (spread n floor) in
     record { least = λ i j h u k. rw e (let a = spread-front t floor n i j l h u (omega arith) in omega arith) }
 
+-- ---- a line raised by the counters of a clock is raised by the clock's line, and zeros so raised are that line
+
+raise-padded : (t : List ℕ) (p m : ℕ) (xs : List ℕ) → length xs ≤ m → raiseFrom t p (sets (replicate m 0) 0 xs) ≡ raiseFrom t p xs
+unfolding raiseFrom
+raise-padded t p m [] h = raise-none t p (replicate m 0) (λ j l k. rw zeros (omega arith))
+raise-padded t p zero (x ∷ xs) h = absurd (omega arith)
+raise-padded t p (suc m) (x ∷ xs) h = rw (sets-cons x (replicate m 0) 0 xs) (raise-padded (set t p (max (getD t p 0) x)) (suc p) m xs (omega arith))
+
+raise-zeros : (t : List ℕ) (p : ℕ) (xs : List ℕ) → ((q : ℕ) → p ≤ q → getD t q 0 ≡ 0) → raiseFrom t p xs ≡ sets t p xs
+unfolding raiseFrom
+raise-zeros t p [] z = refl
+raise-zeros t p (x ∷ xs) z = rw (z p (omega arith), zero-max) (raise-zeros (set t p x) (suc p) xs (λ q h. getD-set-other t p q x 0 (λ e. omega arith) ∙ z q (omega arith)))
+
+module _ (v c : Clock) (actors : List ℕ) (e : actors ≡ map (λ d. actorOf d) v) where
+  raise-line : (t : List ℕ) → length actors ≤ 16 → raiseFrom t 0 (along dots actors c) ≡ raiseFrom t 0 (lineOf v c)
+  unfolding lineOf
+  raise-line t few = rw (← e) (sym (raise-padded t 0 16 (along dots actors c) (rw (length-along dots actors c) few)))
+
+  pub line-of-zeros : (line : List ℕ) → line ≡ raiseFrom (replicate 16 0) 0 (along dots actors c) → line ≡ lineOf v c
+  unfolding lineOf
+  line-of-zeros line w = w ∙ rw (← e) (raise-zeros (replicate 16 0) 0 (along dots actors c) (λ q h. zeros 16 q))
+
 -- ---- all waiting removes
 
 pub wait-turn : (v : Clock) (ms t waits out out′ line : List ℕ) (n i q : ℕ) → i < n → n ≤ length waits → q ≡ getD waits i 0 → line ≡ lineOf v (clockRead t q)
@@ -268,10 +307,10 @@ unfolding killLines
 wait-end v ms t waits out n i h = rw (done waits i n h)
 
 module _ (v : Clock) (t waits top : List ℕ) (n i : ℕ) where
-  pub top-turn : (top′ line : List ℕ) → i < n → n ≤ length waits → line ≡ lineOf v (clockRead t (getD waits i 0)) → top′ ≡ raiseFrom top 0 line
+  pub top-turn : (actors top′ : List ℕ) → i < n → n ≤ length waits → length actors ≤ 16 → actors ≡ map (λ d. actorOf d) v → top′ ≡ raiseFrom top 0 (along dots actors (clockRead t (getD waits i 0)))
       → topFrom v (map (λ p. waitRead t p) (slice (i + 1) n waits)) top′ ≡ topFrom v (map (λ p. waitRead t p) (slice i n waits)) top
   unfolding topFrom waitRead
-  top-turn top′ line h k f w = rw (ahead waits i n 0 h k, w, f)
+  top-turn actors top′ h k few e w = rw (ahead waits i n 0 h k, w, raise-line v (clockRead t (getD waits i 0)) actors e top few)
 
   pub top-end : n ≤ i → topFrom v (map (λ p. waitRead t p) (slice i n waits)) top ≡ top
   unfolding topFrom

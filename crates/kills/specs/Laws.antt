@@ -56,9 +56,13 @@ module _ (N : Rows) where
       same [] h = refl
       same (j ∷ js) h = let q = nat-lt k j (h .0) in ap₂ _∷_ (get-reach k j rs (omega arith)) (same js (h .1))
 
+  pub length-along : (ks : List ℕ) (rs : List (N .Row)) → length (along N ks rs) ≡ length ks
+  length-along [] rs = refl
+  length-along (k ∷ ks) rs = ap suc (length-along ks (reach N k rs))
+
 -- ---- one line raised
 
-length-raise : (t : List ℕ) (p : ℕ) (xs : List ℕ) → length (raiseFrom t p xs) ≡ length t
+pub length-raise : (t : List ℕ) (p : ℕ) (xs : List ℕ) → length (raiseFrom t p xs) ≡ length t
 unfolding raiseFrom
 length-raise t p [] = refl
 length-raise t p (x ∷ xs) = length-raise (set t p (max (getD t p 0) x)) (suc p) xs ∙ length-set t p (max (getD t p 0) x)
@@ -149,7 +153,7 @@ pub record Ordered (w : Wait) : Type 0 where
   pub clock-asc : Rise dots (w .clock)
   pub members-asc : Rise memberRows (w .members)
 
-sets-cons : (x : ℕ) (t : List ℕ) (i : ℕ) (xs : List ℕ) → sets (x ∷ t) (suc i) xs ≡ x ∷ sets t i xs
+pub sets-cons : (x : ℕ) (t : List ℕ) (i : ℕ) (xs : List ℕ) → sets (x ∷ t) (suc i) xs ≡ x ∷ sets t i xs
 sets-cons x t i [] = refl
 sets-cons x t i (y ∷ xs) = sets-cons x (set t i y) (suc i) xs
 
@@ -173,10 +177,6 @@ length-lines v ms (w ∷ ws) t =
 pub length-table : (v : Clock) (ms : List ℕ) (ws : List Wait) (floor t : List ℕ) → length (killTable v ms ws floor t) ≡ length t
 unfolding killTable
 length-table v ms ws floor t = length-lines v ms ws (sets t 0 (spread (length ms) floor)) ∙ length-sets t 0 (spread (length ms) floor)
-
-pub length-marks : (rs : List ℕ) (ks : List ℕ) → length (along memberRows ks rs) ≡ length ks
-length-marks rs [] = refl
-length-marks rs (k ∷ ks) = ap suc (length-marks (reach memberRows k rs) ks)
 
 module _ (v : Clock) (ms : List ℕ) (va : Rise dots v) (ma : Asc compare ms) (few : length v ≤ 16) where
   actors : List ℕ
@@ -212,7 +212,7 @@ module _ (v : Clock) (ms : List ℕ) (va : Rise dots v) (ma : Asc compare ms) (f
       let bs = along memberRows ms (w .members) in
       let wide = length-line v (w .clock) in
       let l′ : 16 * m + j < length (raised t 0 bs L) = rw (length-raised L wide t 0 bs) l in
-      let n = length-marks (w .members) ms in
+      let n = length-along memberRows ms (w .members) in
       let z : 0 + m ≡ m = zero-add m in
       let l0 : 16 * (0 + m) + j < length t = rw z l in
       let e = rw z at (raised-at L wide t 0 bs m j (omega arith) (omega arith) l0) in

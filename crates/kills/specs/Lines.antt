@@ -7,7 +7,6 @@ use lib.ListN.{length, take, set, getD, replicate}
 use lib.Seq.{sets}
 use Rattle.tables.specs.Table.{pick}
 use Rattle.tables.specs.Zip.{Rows, said}
-use Rattle.dots.specs.declared.Dot.{Dot}
 use Rattle.dots.specs.Dot.{dots, actorOf}
 use Rattle.dots.specs.Clock.{Clock}
 use Rattle.replica.specs.Replica.{Wait, memberRows}
@@ -26,10 +25,6 @@ module _ (N : Rows) where
   abbrev pub along : List ℕ → List (N .Row) → List (N .Val)
   along [] rs = []
   along (k ∷ ks) rs = said N k (reach k rs) ∷ along ks (reach k rs)
-
--- the counters of some dots
-abbrev pub numbers : List Dot → List ℕ
-numbers ds = map (λ d. d .counter) ds
 
 -- the counters of a clock along the actors of v, and zeros
 unfoldable pub lineOf : Clock → Clock → List ℕ

@@ -1,4 +1,4 @@
--- What a padded copy tells, what skipping the rows below a key tells, what raising the lines of one member, and what a line that is nowhere above the floor.
+-- What a padded copy tells, what raising by one dot or one member, and what a line that is nowhere above the floor.
 use Prim.Native.Nat.{ℕ, _+_, _*_, _≤_, _<_}
 use mathlib.Core.Path.{_≡_}
 use mathlib.Core.Bool.{Bool, false}
@@ -6,8 +6,10 @@ use mathlib.Core.List.{List, _∷_}
 use lib.ListN.{length, getD}
 use lib.Seq.{slice}
 use Rattle.tables.specs.Zip.{Rows}
+use Rattle.dots.specs.declared.Dot.{Dot}
+use Rattle.dots.specs.Dot.{dots}
 use Rattle.replica.specs.Replica.{memberRows}
-use Rattle.kills.specs.Lines.{reach, along, raised}
+use Rattle.kills.specs.Lines.{along, raiseFrom, raised}
 
 -- bytes from a place on, with zeros past the end: the copy up to byte i, and the whole copy
 pub record Filled (t : List ℕ) (from i : ℕ) (copy : List ℕ) : Type 0 where
@@ -17,13 +19,16 @@ pub record Filled (t : List ℕ) (from i : ℕ) (copy : List ℕ) : Type 0 where
 pub record Padded (t : List ℕ) (from : ℕ) (copy : List ℕ) : Type 0 where
   pub same : (j : ℕ) → j < 192 → getD copy j 0 ≡ getD t (from + j) 0
 
-pub record Skipped (N : Rows) (all rest : List (N .Row)) (k left r : ℕ) : Type 0 where
-  pub le : r ≤ left
-  pub is : reach N k all ≡ rest
+-- what some dots still raise of a line, from number i on; and some members of a table, from line i on
+abbrev pub numbersBy : List ℕ → ℕ → List ℕ → ℕ → List Dot → List ℕ
+numbersBy actors n line i ds = raiseFrom line i (along dots (slice i n actors) ds)
 
--- from line i on: what is left to raise by m and any members after it is, from line r on, what those after it raise
-pub record UpTo (ms : List ℕ) (n m : ℕ) (line : List ℕ) (i : ℕ) (out : List ℕ) (r : ℕ) (out′ : List ℕ) : Type 0 where
-  pub same : (rs : List ℕ) → raised out′ r (along memberRows (slice r n ms) rs) line ≡ raised out i (along memberRows (slice i n ms) (m ∷ rs)) line
+abbrev pub linesBy : List ℕ → ℕ → List ℕ → List ℕ → ℕ → List ℕ → List ℕ
+linesBy ms n line out i rs = raised out i (along memberRows (slice i n ms) rs) line
+
+-- what a row and any rows after it raise from place i on is what those after it raise from place j on
+pub record UpTo (N : Rows) (by : List ℕ → ℕ → List (N .Row) → List ℕ) (r : N .Row) (i : ℕ) (out : List ℕ) (j : ℕ) (out′ : List ℕ) : Type 0 where
+  pub same : (rs : List (N .Row)) → by out′ j rs ≡ by out i (r ∷ rs)
 
 -- a line that is not above the floor is nowhere above it
 pub record Compared (line floor : List ℕ) (b : Bool) : Type 0 where

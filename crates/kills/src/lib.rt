@@ -1,22 +1,20 @@
 // Kill lines: for each entry and each actor of a clock, up to which counter the waiting removes that name the entry's member cover the actor's dots.
 ghost use mathlib.Core.Path.{_≡_};
-ghost use Prim.Native.Nat.{_+_, _-_, _*_, _<_, _≤_, max, min};
+ghost use mathlib.Core.List.{map};
+ghost use Prim.Native.Nat.{_+_, _*_, _<_, _≤_, max, min};
 ghost use lib.ListN.{length, take};
 ghost use lib.Seq.{sets};
 ghost use Rattle.tables.specs.Table.{pick};
-ghost use Rattle.tables.specs.Zip.{said};
-ghost use Rattle.dots.specs.Dot.{dots};
+ghost use Rattle.dots.specs.Dot.{dots, dot, actorOf};
 ghost use Rattle.clocks.specs.VClock.{dotsOf};
 ghost use Rattle.replica.specs.Replica.{memberRows};
 ghost use Rattle.layout.specs.Fields.{u32At};
 ghost use Rattle.layout.specs.Clock.{dotsAt};
 ghost use Rattle.layout.specs.Rows.{membersAt};
 ghost use Rattle.fields.specs.Read.{clockRead};
-ghost use Rattle.kills.specs.Lines.{along, numbers, lineOf, raiseFrom, raised, topLine, spread, killTable, membersOf, waitRead, waitsOf};
-ghost use Rattle.kills.specs.Posts.{Padded, Skipped, UpTo, Compared, Founded};
+ghost use Rattle.kills.specs.Lines.{along, raiseFrom, raised, topLine, spread, killTable, membersOf, waitRead, waitsOf};
+ghost use Rattle.kills.specs.Posts.{Padded, numbersBy, linesBy, UpTo, Compared, Founded};
 use clocks::VClock;
-use dots::Actor;
-use dots::Dot;
 use fields::u32_at;
 use fields::u64_at;
 
@@ -33,106 +31,91 @@ fn at_most(n: usize, most: usize) -> usize
     if n < most { n } else { most }
 }
 
-// The actors of v, each with its counter in the clock at a place. A clock that reaches past the end is read from a copy that does not.
-fn line_at(t: &[u8], at: u32, v: VClock) -> [Dot; 16]
-    ensures { λ r. ⌜ numbers r ≡ lineOf (dotsOf v) (clockRead (now (t .entry)) at) ⌝ }
+// The actors of v, each with the largest counter that any of the k waiting removes at places has for it.
+pub fn top_line(t: &[u8], waits: [u32; 16], k: usize, v: VClock) -> [u64; 16]
+    ensures { λ r. ⌜ r ≡ topLine (dotsOf v) (waitsOf (now (t .entry)) waits k) ⌝ }
+{
+    let number = at_most(k, 16);
+    let n = at_most(v.len, 16);
+    let actors = actors_of(v, n);
+    let mut top = [0u64; 16];
+    let mut i: usize = 0;
+    while i < number {
+        raise_at(t, waits[i], &actors, n, &mut top);
+        i += 1;
+    }
+    top
+}
+
+// The actors of the first n dots of a clock.
+fn actors_of(v: VClock, n: usize) -> [u32; 16]
+    requires { ⌜ n ≤ 16 ⌝ }
+    ensures { λ r. ⌜ take n r ≡ map (λ d. actorOf d) (take n (v .dots)) ⌝ }
+{
+    let mut actors = [0u32; 16];
+    let mut i: usize = 0;
+    while i < n {
+        actors[i] = v.dots[i].actor.0;
+        i += 1;
+    }
+    actors
+}
+
+// Raises a line to the counters that the clock at a place has for the n actors. A clock that reaches past the end is read from a copy that does not.
+fn raise_at(t: &[u8], at: u32, actors: &[u32; 16], n: usize, line: &mut [u64; 16])
+    requires { ⌜ (n ≤ 16) × (length (now actors) ≡ 16) ⌝ }
+    ensures { λ _. ⌜ now (line .exit) ≡ raiseFrom (now (line .entry)) 0 (along dots (take n (now (actors .entry))) (clockRead (now (t .entry)) at)) ⌝ }
 {
     let q = wide(at);
     let from = q + 4;
     let count = at_most(wide(u32_at(t, q)), 16);
     if t.len() < from + 12 * count {
         let copy = padded(t, from);
-        line_in(&copy, 0, count, v)
+        raise_in(&copy, 0, count, actors, n, line);
     } else {
-        line_in(t, from, count, v)
+        raise_in(t, from, count, actors, n, line);
     }
 }
 
-// Raises a line to another.
-fn raise_top(top: &mut [u64; 16], line: [Dot; 16])
-    ensures { λ _. ⌜ now (top .exit) ≡ raiseFrom (now (top .entry)) 0 (numbers line) ⌝ }
+// Raises a line to the counters that the dots from a place on have for the n actors: one walk along both. The dots lie inside, so no read is tested when the code runs.
+fn raise_in(t: &[u8], from: usize, count: usize, actors: &[u32; 16], n: usize, line: &mut [u64; 16])
+    requires { ⌜ (from + 12 * count ≤ length (now t)) × (n ≤ 16) × (length (now actors) ≡ 16) ⌝ }
+    ensures { λ _. ⌜ now (line .exit) ≡ raiseFrom (now (line .entry)) 0 (along dots (take n (now (actors .entry))) (dotsAt (now (t .entry)) from count)) ⌝ }
 {
-    let mut j: usize = 0;
-    while j < 16 {
-        top[j] = larger(top[j], line[j].counter);
-        j += 1;
-    }
-}
-
-// The actors of v, each with the largest counter that any of the k waiting removes at places has for it.
-pub fn top_line(t: &[u8], waits: [u32; 16], k: usize, v: VClock) -> [u64; 16]
-    ensures { λ r. ⌜ r ≡ topLine (dotsOf v) (waitsOf (now (t .entry)) waits k) ⌝ }
-{
-    let number = at_most(k, 16);
-    let mut top = [0u64; 16];
-    let mut i: usize = 0;
-    while i < number {
-        let line = line_at(t, waits[i], v);
-        raise_top(&mut top, line);
-        i += 1;
-    }
-    top
-}
-
-// How many of the dots from a place on have an actor below a.
-fn skip_dots(t: &[u8], p: usize, left: usize, a: u32) -> usize
-    requires { ⌜ p + 12 * left ≤ length (now t) ⌝ }
-    ensures { λ r. ⌜ Skipped dots (dotsAt (now (t .entry)) p left) (dotsAt (now (t .entry)) (p + 12 * r) (left - r)) a left r ⌝ }
-{
-    let mut i: usize = 0;
-    while i < left {
-        let q = p + 12 * i;
-        let here = &t[q..q + 12];
-        if u32_at(here, 0) < a {
-            i += 1;
-        } else {
-            return i;
-        }
-    }
-    i
-}
-
-// The counter of the first of the dots from a place on, if its actor is a.
-fn counted(t: &[u8], p: usize, left: usize, a: u32) -> u64
-    requires { ⌜ p + 12 * left ≤ length (now t) ⌝ }
-    ensures { λ r. ⌜ r ≡ said dots a (dotsAt (now (t .entry)) p left) ⌝ }
-{
-    if left == 0 {
-        return 0;
-    }
-    let here = &t[p..p + 12];
-    if u32_at(here, 0) == a {
-        u64_at(here, 4)
-    } else {
-        0
-    }
-}
-
-// The actors of v, each with its counter among the dots from a place on, which lie inside: no read is tested when the code runs.
-fn line_in(t: &[u8], from: usize, count: usize, v: VClock) -> [Dot; 16]
-    requires { ⌜ from + 12 * count ≤ length (now t) ⌝ }
-    ensures { λ r. ⌜ numbers r ≡ lineOf (dotsOf v) (dotsAt (now (t .entry)) from count) ⌝ }
-{
-    let n = at_most(v.len, 16);
-    let mut line = [Dot {
-        actor: Actor(0),
-        counter: 0,
-    }; 16];
     let mut p = from;
     let mut left = count;
     let mut i: usize = 0;
+    while 0 < left {
+        let here = &t[p..p + 12];
+        i = raise_actor(actors, i, n, u32_at(here, 0), u64_at(here, 4), line);
+        p += 12;
+        left -= 1;
+    }
+}
+
+// From number i on, raises those of the actor a to a counter, up to the first actor above a, whose place is the answer.
+fn raise_actor(
+    actors: &[u32; 16],
+    from: usize,
+    n: usize,
+    a: u32,
+    counter: u64,
+    line: &mut [u64; 16],
+) -> usize
+    requires { ⌜ (n ≤ 16) × (length (now actors) ≡ 16) ⌝ }
+    ensures { λ r. ⌜ UpTo dots (numbersBy (now (actors .entry)) n) (dot a counter) from (now (line .entry)) r (now (line .exit)) ⌝ }
+{
+    let mut i = from;
     while i < n {
-        let a = v.dots[i].actor.0;
-        let r = skip_dots(t, p, left, a);
-        p += 12 * r;
-        left -= r;
-        line[i] = Dot {
-            actor: Actor(a),
-            counter: counted(t, p, left, a),
-        };
+        if a < actors[i] {
+            return i;
+        }
+        if a == actors[i] {
+            line[i] = larger(line[i], counter);
+        }
         i += 1;
     }
-    line
+    i
 }
 
 // The 192 bytes from a place on, with zeros past the end.
@@ -159,12 +142,12 @@ fn larger(x: u64, y: u64) -> u64
 }
 
 // Whether a line is somewhere above the floor.
-fn above(line: [Dot; 16], floor: &[u64; 16]) -> bool
-    ensures { λ r. ⌜ Compared (numbers line) (now (floor .entry)) r ⌝ }
+fn above(line: &[u64; 16], floor: &[u64; 16]) -> bool
+    ensures { λ r. ⌜ Compared (now (line .entry)) (now (floor .entry)) r ⌝ }
 {
     let mut j: usize = 0;
     while j < 16 {
-        if floor[j] < line[j].counter {
+        if floor[j] < line[j] {
             return true;
         }
         j += 1;
@@ -172,22 +155,22 @@ fn above(line: [Dot; 16], floor: &[u64; 16]) -> bool
     false
 }
 
-// Raises line i of the table to a line. It takes dots, since bare numbers would be compared two at a time, which is slower.
-fn raise_line(out: &mut [u64; 1024], i: usize, line: [Dot; 16])
-    requires { ⌜ i < 64 ⌝ }
-    ensures { λ _. ⌜ now (out .exit) ≡ raiseFrom (now (out .entry)) (16 * i) (numbers line) ⌝ }
+// Raises line i of the table to a line.
+fn raise_line(out: &mut [u64; 1024], i: usize, line: &[u64; 16])
+    requires { ⌜ (i < 64) × (length (now line) ≡ 16) ⌝ }
+    ensures { λ _. ⌜ now (out .exit) ≡ raiseFrom (now (out .entry)) (16 * i) (now (line .entry)) ⌝ }
 {
     let mut j: usize = 0;
     while j < 16 {
-        out[16 * i + j] = larger(out[16 * i + j], line[j].counter);
+        out[16 * i + j] = larger(out[16 * i + j], line[j]);
         j += 1;
     }
 }
 
 // The same, where asked.
-fn raise(out: &mut [u64; 1024], i: usize, line: [Dot; 16], asked: bool)
-    requires { ⌜ i < 64 ⌝ }
-    ensures { λ _. ⌜ now (out .exit) ≡ pick asked (raiseFrom (now (out .entry)) (16 * i) (numbers line)) (now (out .entry)) ⌝ }
+fn raise(out: &mut [u64; 1024], i: usize, line: &[u64; 16], asked: bool)
+    requires { ⌜ (i < 64) × (length (now line) ≡ 16) ⌝ }
+    ensures { λ _. ⌜ now (out .exit) ≡ pick asked (raiseFrom (now (out .entry)) (16 * i) (now (line .entry))) (now (out .entry)) ⌝ }
 {
     if asked {
         raise_line(out, i, line);
@@ -200,11 +183,11 @@ fn raise_same(
     from: usize,
     n: usize,
     m: u32,
-    line: [Dot; 16],
+    line: &[u64; 16],
     out: &mut [u64; 1024],
 ) -> usize
-    requires { ⌜ (n ≤ 64) × (length (now ms) ≡ 64) ⌝ }
-    ensures { λ r. ⌜ UpTo (now (ms .entry)) n m (numbers line) from (now (out .entry)) r (now (out .exit)) ⌝ }
+    requires { ⌜ (n ≤ 64) × (length (now ms) ≡ 64) × (length (now line) ≡ 16) ⌝ }
+    ensures { λ r. ⌜ UpTo memberRows (linesBy (now (ms .entry)) n (now (line .entry))) m from (now (out .entry)) r (now (out .exit)) ⌝ }
 {
     let mut i = from;
     while i < n {
@@ -223,11 +206,11 @@ fn raise_named(
     n: usize,
     t: &[u8],
     at: usize,
-    line: [Dot; 16],
+    line: &[u64; 16],
     out: &mut [u64; 1024],
 )
-    requires { ⌜ (n ≤ 64) × (length (now ms) ≡ 64) × (at < 70368744177664) ⌝ }
-    ensures { λ _. ⌜ now (out .exit) ≡ raised (now (out .entry)) 0 (along memberRows (take n (now (ms .entry))) (membersAt (now (t .entry)) (at + 4) (min (u32At (now (t .entry)) at) 64))) (numbers line) ⌝ }
+    requires { ⌜ (n ≤ 64) × (length (now ms) ≡ 64) × (length (now line) ≡ 16) × (at < 70368744177664) ⌝ }
+    ensures { λ _. ⌜ now (out .exit) ≡ raised (now (out .entry)) 0 (along memberRows (take n (now (ms .entry))) (membersAt (now (t .entry)) (at + 4) (min (u32At (now (t .entry)) at) 64))) (now (line .entry)) ⌝ }
 {
     let mut p = at + 4;
     let mut left = at_most(wide(u32_at(t, at)), 64);
@@ -245,12 +228,12 @@ fn raise_by(
     n: usize,
     t: &[u8],
     at: u32,
-    line: [Dot; 16],
+    line: &[u64; 16],
     floor: &[u64; 16],
     out: &mut [u64; 1024],
 )
-    requires { ⌜ (n ≤ 64) × (length (now ms) ≡ 64) × Founded (now floor) n (now out) ⌝ }
-    ensures { λ _. ⌜ now (out .exit) ≡ raised (now (out .entry)) 0 (along memberRows (take n (now (ms .entry))) (waitRead (now (t .entry)) at .members)) (numbers line) ⌝ }
+    requires { ⌜ (n ≤ 64) × (length (now ms) ≡ 64) × (length (now line) ≡ 16) × Founded (now floor) n (now out) ⌝ }
+    ensures { λ _. ⌜ now (out .exit) ≡ raised (now (out .entry)) 0 (along memberRows (take n (now (ms .entry))) (waitRead (now (t .entry)) at .members)) (now (line .entry)) ⌝ }
 {
     if above(line, floor) {
         let q = wide(at);
@@ -316,11 +299,14 @@ pub fn kill_lines(
     let number = at_most(k, 16);
     let ms = members_at(s, places, entries);
     lay(&floor, entries, out);
+    let width = at_most(v.len, 16);
+    let actors = actors_of(v, width);
     let mut i: usize = 0;
     while i < number {
         let at = waits[i];
-        let line = line_at(t, at, v);
-        raise_by(&ms, entries, t, at, line, &floor, out);
+        let mut line = [0u64; 16];
+        raise_at(t, at, &actors, width, &mut line);
+        raise_by(&ms, entries, t, at, &line, &floor, out);
         i += 1;
     }
 }

@@ -1,5 +1,4 @@
 use Rattle.kills.proofs.Steps.{under-turn}
-use Rattle.kills.specs.Lines.{numbers}
 use lib.ListN.{getD}
 use native.Mathlib.Omega.{arith}
 use Prim.Native.Nat.{ℕ, _-_, _≤_, _<_}
@@ -10,10 +9,10 @@ use Rattle.kills.proofs.above.Statement.{statement}
 use Rattle.kills.proofs.above.Tie as tie
 
 abbrev Inv-loop : tie.InvT-loop
-Inv-loop floor line j₀ j = (j ≤ 16) × ((i : ℕ) → i < j → getD (numbers line) i 0 ≤ getD floor i 0)
+Inv-loop line floor j₀ j = (j ≤ 16) × ((i : ℕ) → i < j → getD line i 0 ≤ getD floor i 0)
 
 abbrev μ-loop : tie.MeasureT-loop
-μ-loop floor line j₀ j = 16 - j
+μ-loop line floor j₀ j = 16 - j
 
 loop-holds : tie.Need-loop-holds Inv-loop μ-loop
 loop-holds c = (search needs, λ i h. omega arith)
@@ -23,9 +22,9 @@ returns c = record { under = λ e. absurd (false≢true (sym e)) }
 
 loop-again : tie.Need-loop-again Inv-loop μ-loop
 loop-again c =
-    let a = c .before .before .before .before .args in
-    let l = c .before .before .before .loop in
-    (search needs, under-turn (a .t1) (a .floor .now) (l .j) (l .inv .1) (omega arith))
+    let a = c .before .before .before .before .before .args in
+    let l = c .before .before .before .before .loop in
+    (search needs, under-turn (a .line .now) (a .floor .now) (l .j) (l .inv .1) (omega arith))
 
 returns-2 : tie.Need-returns-2 Inv-loop μ-loop
 returns-2 c = let l = c .before .loop in record { under = λ e j h. l .inv .1 j (omega arith) }

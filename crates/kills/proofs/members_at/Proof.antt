@@ -1,4 +1,4 @@
-use Rattle.kills.proofs.Steps.{members-turn, members-end, taken}
+use Rattle.kills.proofs.Steps.{each-turn, each-end, taken}
 use Rattle.kills.specs.Lines.{membersOf}
 use Rattle.layout.specs.Fields.{u32At}
 use lib.Seq.{sets, slice}
@@ -24,7 +24,7 @@ loop-again : tie.Need-loop-again Inv-loop μ-loop
 loop-again c =
     let a = c .before .before .before .before .before .args in
     let l = c .before .before .before .loop in
-    (search needs, members-turn (a .s .now) (a .t2) (a .n) (l .ms) (l .i) _ (omega arith) (omega arith) (c .u32-at .ensures ∙ ap (u32At (a .s .now)) (c .before .wide .ensures .0)) ∙ l .inv .1)
+    (search needs, each-turn (u32At (a .s .now)) 0 (a .t2) (a .n) (l .ms) (l .i) _ (omega arith) (omega arith) (c .u32-at .ensures ∙ ap (u32At (a .s .now)) (c .before .wide .ensures .0)) ∙ l .inv .1)
 
 returns : tie.Need-returns Inv-loop μ-loop
 unfolding membersOf
@@ -33,7 +33,7 @@ returns c =
     let l = c .before .loop in
     let xs = map (λ q. u32At (a .s .now) q) (take (a .n) (a .t2)) in
     let n : length xs ≡ a .n = simp (length-map, length-take) (omega arith) in
-    let e = sym (members-end (a .s .now) (a .t2) (a .n) (l .ms) (l .i) (omega arith)) ∙ l .inv .1 in
+    let e = sym (each-end (u32At (a .s .now)) 0 (a .t2) (a .n) (l .ms) (l .i) (omega arith)) ∙ l .inv .1 in
     ap (take (a .n)) e ∙ taken _ xs (a .n) n (omega arith)
 
 pub members-at-spec : {M : Type 1} → statement M

@@ -1,13 +1,12 @@
 use Rattle.kills.proofs.Steps.{members-are, none-above}
-use Rattle.kills.specs.Laws.{length-marks}
-use Rattle.kills.specs.Lines.{along, numbers, raised, waitRead}
+use Rattle.kills.specs.Laws.{length-along}
+use Rattle.kills.specs.Lines.{along, raised, waitRead}
 use Rattle.replica.specs.Replica.{memberRows}
-use Rattle.clocks.proofs.Steps.{mapped}
-use lib.ListN.{length, take, length-map, length-take}
+use lib.ListN.{length, take, length-take}
 use native.Mathlib.Omega.{arith}
 use Prim.Native.Nat.{ℕ, _≤_}
 use mathlib.Core.List.{List}
-use mathlib.Core.Path.{_≡_, ap, _∙_}
+use mathlib.Core.Path.{ap, _∙_}
 use borrow.Author.Needs.{needs}
 use Rattle.kills.proofs.raise_by.Statement.{statement}
 use Rattle.kills.proofs.raise_by.Tie as tie
@@ -16,16 +15,14 @@ returns : tie.Need-returns
 returns c =
     let a = c .before .before .before .before .before .before .before .before .args in
     c .raise-named .ensures
-    ∙ ap (λ (ks : List ℕ). raised (a .out .now) 0 (along memberRows (take (a .n) (a .ms .now)) ks) (numbers (a .line)))
+    ∙ ap (λ (ks : List ℕ). raised (a .out .now) 0 (along memberRows (take (a .n) (a .ms .now)) ks) (a .line .now))
     (members-are (a .t .now) (a .at) (c .before .before .before .before .wide .result) (c .before .before .wide2 .result) (c .before .before .before .before .wide .ensures .0) (c .before .before .wide2 .ensures .0 ∙ c .before .before .before .u32-at .ensures))
 
 returns-2 : tie.Need-returns-2
 returns-2 c =
     let a = c .before .before .before .args in
-    let long : length (a .line) ≡ 16 = search mapped in
-    let l : length (numbers (a .line)) ≡ 16 = simp length-map (omega arith) in
-    let n : length (along memberRows (take (a .n) (a .ms .now)) (waitRead (a .t .now) (a .at) .members)) ≤ a .n = simp (length-marks, length-take) (omega arith) in
-    none-above (a .out .now) (a .floor .now) (a .n) _ (numbers (a .line)) l n (c .before .before .before .pre .2) (c .before .above .ensures .under (c .if1 .left))
+    let n : length (along memberRows (take (a .n) (a .ms .now)) (waitRead (a .t .now) (a .at) .members)) ≤ a .n = rw (length-along memberRows (take (a .n) (a .ms .now)) (waitRead (a .t .now) (a .at) .members), length-take) (omega arith) in
+    none-above (a .out .now) (a .floor .now) (a .n) _ (a .line .now) (omega arith) n (c .before .before .before .pre .3) (c .before .above .ensures .under (c .if1 .left))
 
 pub raise-by-spec : {M : Type 1} → statement M
 raise-by-spec =

@@ -1,7 +1,6 @@
 use Rattle.kills.proofs.Steps.{raise-turn, raise-end}
-use Rattle.kills.specs.Lines.{numbers, raiseFrom}
-use Rattle.clocks.proofs.Steps.{mapped}
-use lib.ListN.{length, drop, set}
+use Rattle.kills.specs.Lines.{raiseFrom}
+use lib.ListN.{drop, set}
 use native.Mathlib.Nat.{add-zero}
 use native.Mathlib.Omega.{arith}
 use Prim.Native.Nat.{ℕ, _+_, _*_, _-_, _≤_}
@@ -11,7 +10,7 @@ use Rattle.kills.proofs.raise_line.Statement.{statement}
 use Rattle.kills.proofs.raise_line.Tie as tie
 
 abbrev Inv-loop : tie.InvT-loop
-Inv-loop out₀ i line j₀ out j = (j ≤ 16) × (raiseFrom out (16 * i + j) (numbers (drop j line)) ≡ raiseFrom out₀ (16 * i) (numbers line))
+Inv-loop out₀ i line j₀ out j = (j ≤ 16) × (raiseFrom out (16 * i + j) (drop j line) ≡ raiseFrom out₀ (16 * i) line)
 
 abbrev μ-loop : tie.MeasureT-loop
 μ-loop out₀ i line j₀ out j = 16 - j
@@ -21,20 +20,18 @@ loop-holds c = (search needs, rw add-zero)
 
 loop-again : tie.Need-loop-again Inv-loop μ-loop
 loop-again c =
-    let a = c .before .before .before .before .args in
-    let l = c .before .before .before .loop in
-    let long : length (a .t3) ≡ 16 = search mapped in (
+    let a = c .before .before .before .before .before .args in
+    let l = c .before .before .before .before .loop in (
       search needs,
-      ap (λ (x : ℕ). raiseFrom (set (l .out) (16 * a .i + l .j) x) (16 * a .i + (l .j + 1)) (numbers (drop (l .j + 1) (a .t3)))) (c .larger .ensures)
-          ∙ raise-turn (l .out) (a .t3) (16 * a .i + l .j) (16 * a .i + (l .j + 1)) (l .j) (omega arith) (omega arith) ∙ l .inv .1,
+      ap (λ (x : ℕ). raiseFrom (set (l .out) (16 * a .i + l .j) x) (16 * a .i + (l .j + 1)) (drop (l .j + 1) (a .line .now))) (c .larger .ensures)
+          ∙ raise-turn (l .out) (a .line .now) (16 * a .i + l .j) (16 * a .i + (l .j + 1)) (l .j) (omega arith) (omega arith) ∙ l .inv .1,
     )
 
 returns : tie.Need-returns Inv-loop μ-loop
 returns c =
     let a = c .before .before .args in
     let l = c .before .loop in
-    let long : length (a .t3) ≡ 16 = search mapped in
-    sym (raise-end (l .out) (a .t3) (16 * a .i + l .j) (l .j) (omega arith)) ∙ l .inv .1
+    sym (raise-end (l .out) (a .line .now) (16 * a .i + l .j) (l .j) (omega arith)) ∙ l .inv .1
 
 pub raise-line-spec : {M : Type 1} → statement M
 raise-line-spec =
