@@ -1,3 +1,4 @@
 pub mod Steps
+pub mod Rise
 pub mod Whole
 pub mod Link

@@ -18,28 +18,29 @@ use Rattle.dots.specs.Clock.{Clock, count, covers}
 use Rattle.dots.specs.Covering.{count-same, count-other}
 use Rattle.dots.specs.Rising.{true-from, both-left, both-right}
 use Rattle.dots.specs.ClockLaws.{dot-proper}
-use Rattle.clocks.specs.declared.VClock.{VClock}
 use Rattle.clocks.specs.VClock.{dotsOf, vclock, dots-vclock}
 use Rattle.replica.specs.Replica.{Entry, Replica}
 use Rattle.replica.specs.Kills.{killsOf, spared-number}
 use Rattle.layout.specs.Fields.{u32At}
 use Rattle.layout.specs.Lists.{listAt, startsAt}
-use Rattle.layout.specs.Clock.{narrow, clockAt, clockEnd}
+use Rattle.layout.specs.Clock.{clockAt, clockEnd}
 use Rattle.layout.specs.Rows.{rowAt, rowIn, rowEnd, rowsAt, placesAt, waitIn, waitAtPlace, waitEnd, waitsAt, waitPlacesAt, waitsEnd, membersAt}
 use Rattle.layout.specs.Image.{imageIn, imageOf, goodImage}
-use Rattle.replica.specs.Limits.{full}
-use Rattle.layout.specs.Good.{goodClock, goodMembers, goodRows, goodWaits, goodEntry, goodContents, goodParts, goodPartsIn, partsTests, checksIn}
-use Rattle.layout.specs.Kit.{stands, named, clock-normal, place-row, place-good, first-wait, length-startsAt, length-clockAt, each-from}
+use Rattle.layout.specs.Good.{goodClock, goodMembers, goodRows, goodWaits, goodEntry, goodContents, checksIn}
+use Rattle.layout.specs.Kit.{Stands, stands, named, clock-normal, place-row, place-good, first-wait, length-startsAt, length-clockAt, each-from}
 use Rattle.layout.specs.Form.{length-listAt}
 use Rattle.layout.specs.Checks.{rows-rise, members-rise, passed}
+use Rattle.scan.specs.Scan.{laidRows}
+use Rattle.scan.proofs.Tables.{first-laid}
 use Rattle.kills.specs.Lines.{topLine, killTable, membersOf, waitRead, waitsOf}
 use Rattle.kills.specs.Laws.{Ordered, top-above, kill-numbers}
 use Rattle.kills.proofs.Steps.{taken}
-use Rattle.image.specs.Fits.{within, fits, fitAll, EachStands}
+use Rattle.image.specs.Fits.{within, fits, fitAll, EachInside}
 use Rattle.layout.specs.Main.{checked}
 use Rattle.image.specs.declared.Image.{Image}
-use Rattle.image.specs.Image.{imageOfBytes, checkImage, partsImage, noImage}
+use Rattle.image.specs.Image.{imageOfBytes, checkImage, laidPartsTests, laidParts, partsImage, noImage}
 use Rattle.image.proofs.Steps.{contents-few}
+use Rattle.image.proofs.Rise.{rise, all-rise, rows-are, parts-are}
 use Rattle.image.proofs.Whole.{read-good, picked-true, picked-false}
 
 -- ---- one entry
@@ -182,34 +183,44 @@ waits-ordered s p last (suc n) g =
       waits-ordered s (waitEnd s p) (clockAt s p) n (f .others),
     )
 
--- ---- the entries of an image whose parts are good
+-- ---- the entries of an image whose parts are laid
+
+place-inside : (s : List ℕ) (p low n i : ℕ) → laidRows s p low n ≡ true → i < n → rowEnd s (getD (placesAt s p n) i 0) ≤ length s
+unfolding startsAt
+place-inside s p low zero i g h = absurd (omega arith)
+place-inside s p low (suc n) zero g h = first-laid s p low n g .inside
+place-inside s p low (suc n) (suc i) g h = place-inside s (rowEnd s p) (u32At s p + 1) n i (first-laid s p low n g .others) (omega arith)
+
+-- the places in the check's array, and the starts
+abbrev places : List ℕ → ℕ → ℕ → List ℕ
+places s start n = sets (replicate 64 0) 0 (placesAt s start n)
+
+abbrev starts : List ℕ → ℕ → ℕ → List ℕ
+starts s start k = sets (replicate 16 0) 0 (waitPlacesAt s start k)
+
+module _ (s : List ℕ) (start n : ℕ) (few : n ≤ 64) where
+  taken-places : take n (places s start n) ≡ placesAt s start n
+  taken-places = taken (replicate 64 0) (placesAt s start n) n (length-startsAt rowEnd s start n) few
+
+  ms-are : membersOf s (places s start n) n ≡ map (λ e. e .member) (rowsAt s start n)
+  unfolding membersOf
+  ms-are = rw taken-places (members-are s start n)
+
+  each-inside : laidRows s start 0 n ≡ true → EachInside s (places s start n) n
+  each-inside g = record { each = λ i h. rw (← (getD-take n (places s start n) i 0 h), taken-places) (place-inside s start 0 n i g h) }
+
+ws-are : (s : List ℕ) (start k : ℕ) → k ≤ 16 → goodWaits s start [] k ≡ true → waitsOf s (starts s start k) k ≡ waitsAt s start k
+unfolding waitsOf
+ws-are s start k few g = rw (taken (replicate 16 0) (waitPlacesAt s start k) k (length-startsAt waitEnd s start k) few) (waits-are s start [] k g)
+
+-- ---- and whose clocks rise
 
 module _ (s : List ℕ) (start n wstart k : ℕ) (few : n ≤ 64) (waits-few : k ≤ 16) (cg : goodClock s 24 ≡ true) (rg : goodRows s start 0 n ≡ true) (wg : goodWaits s wstart [] k ≡ true) where
   abbrev R : Replica
   R = record { clock = clockAt s 24; entries = rowsAt s start n; waiting = waitsAt s wstart k }
 
-  abbrev pub places : List ℕ
-  places = sets (replicate 64 0) 0 (placesAt s start n)
-
-  abbrev pub starts : List ℕ
-  starts = sets (replicate 16 0) 0 (waitPlacesAt s wstart k)
-
-  taken-places : take n places ≡ placesAt s start n
-  taken-places = taken (replicate 64 0) (placesAt s start n) n (length-startsAt rowEnd s start n) few
-
-  taken-starts : take k starts ≡ waitPlacesAt s wstart k
-  taken-starts = taken (replicate 16 0) (waitPlacesAt s wstart k) k (length-startsAt waitEnd s wstart k) waits-few
-
   clock-is : dotsOf (vclock (clockAt s 24)) ≡ clockAt s 24
   clock-is = dots-vclock (clockAt s 24) (let w = stands s 24 cg in let e = length-clockAt s 24 in omega (arith, w .count))
-
-  pub ms-are : membersOf s places n ≡ map (λ e. e .member) (rowsAt s start n)
-  unfolding membersOf
-  ms-are = rw taken-places (members-are s start n)
-
-  pub ws-are : waitsOf s starts k ≡ waitsAt s wstart k
-  unfolding waitsOf
-  ws-are = rw taken-starts (waits-are s wstart [] k wg)
 
   abbrev lines : List ℕ
   lines = killTable (clockAt s 24) (map (λ e. e .member) (rowsAt s start n)) (waitsAt s wstart k) (replicate 16 0) (replicate 1024 0)
@@ -267,23 +278,13 @@ module _ (s : List ℕ) (start n wstart k : ℕ) (few : n ≤ 64) (waits-few : k
       g
 
   -- as the check has it
-  pub fit-told : (c : VClock) (places′ : List ℕ) (starts′ t : List ℕ) → c ≡ vclock (clockAt s 24) → places′ ≡ places → starts′ ≡ starts
-      → t ≡ killTable (dotsOf c) (membersOf s places′ n) (waitsOf s starts′ k) (replicate 16 0) (replicate 1024 0)
-      → fitAll t s (dotsOf c) true 0 (take n places′) ≡ every (goodEntry R) (rowsAt s start n)
-  fit-told c places′ starts′ t ec ep es et =
-      let v : dotsOf c ≡ clockAt s 24 = ap (λ (x : VClock). dotsOf x) ec ∙ clock-is in
-      let l : t ≡ lines = et ∙ (λ i. killTable (v i) ((ap (λ (x : List ℕ). membersOf s x n) ep ∙ ms-are) i) ((ap (λ (x : List ℕ). waitsOf s x k) es ∙ ws-are) i) (replicate 16 0) (replicate 1024 0)) in
-      (λ i. fitAll (l i) s (v i) true 0 ((ap (take n) ep ∙ taken-places) i)) ∙ entries-are
+  fit-told : (t : List ℕ) → t ≡ killTable (dotsOf (vclock (clockAt s 24))) (membersOf s (places s start n) n) (waitsOf s (starts s wstart k) k) (replicate 16 0) (replicate 1024 0)
+      → fitAll t s (clockAt s 24) true 0 (take n (places s start n)) ≡ every (goodEntry R) (rowsAt s start n)
+  fit-told t e = rw (e, clock-is, ms-are s start n few, ws-are s wstart k waits-few wg, taken-places s start n few) entries-are
 
-  pub above-told : (c : VClock) (places′ : List ℕ) (starts′ t : List ℕ) → c ≡ vclock (clockAt s 24) → places′ ≡ places → starts′ ≡ starts → t ≡ topLine (dotsOf c) (waitsOf s starts′ k)
-      → fitAll t s (dotsOf c) false 0 (take n places′) ≡ true → every (goodEntry R) (rowsAt s start n) ≡ true
-  above-told c places′ starts′ t ec ep es et g =
-      let v : dotsOf c ≡ clockAt s 24 = ap (λ (x : VClock). dotsOf x) ec ∙ clock-is in
-      let l : t ≡ topLine (clockAt s 24) (waitsAt s wstart k) = et ∙ (λ i. topLine (v i) ((ap (λ (x : List ℕ). waitsOf s x k) es ∙ ws-are) i)) in
-      above-all (sym (λ i. fitAll (l i) s (v i) false 0 ((ap (take n) ep ∙ taken-places) i)) ∙ g)
-
-  pub each-stands : EachStands s places n
-  each-stands = record { each = λ i h. stands s (getD places i 0 + 4) (rw (← (getD-take n places i 0 h), taken-places) (place-good s start 0 n i rg h)) }
+  above-told : (t : List ℕ) → t ≡ topLine (dotsOf (vclock (clockAt s 24))) (waitsOf s (starts s wstart k) k)
+      → fitAll t s (clockAt s 24) false 0 (take n (places s start n)) ≡ true → every (goodEntry R) (rowsAt s start n) ≡ true
+  above-told t e g = above-all (rw (e, clock-is, ws-are s wstart k waits-few wg, taken-places s start n few) at g)
 
 -- ---- the whole check
 
@@ -291,96 +292,107 @@ record Sized (s : List ℕ) : Type 0 where
   few-entries : u32At s 12 ≤ 64
   few-waits : u32At s 20 ≤ 16
   clock-ok : goodClock s 24 ≡ true
-  rows-ok : goodRows s (u32At s 8) 0 (u32At s 12) ≡ true
+  laid-ok : laidRows s (u32At s 8) 0 (u32At s 12) ≡ true
   waits-ok : goodWaits s (u32At s 16) [] (u32At s 20) ≡ true
 
-sized : (s : List ℕ) → goodParts s ≡ true → Sized s
-unfolding goodPartsIn
+sized : (s : List ℕ) → laidParts s ≡ true → Sized s
+unfolding laidParts
 sized s e =
-    let t : T (goodParts s) = rw e tt in
-    let p = each-from (partsTests narrow full s) (eqb (waitsEnd s (u32At s 16) (u32At s 20)) (length s)) t in
+    let t : T (laidParts s) = rw e tt in
+    let p = each-from (laidPartsTests s) (eqb (waitsEnd s (u32At s 16) (u32At s 20)) (length s)) t in
     let f = contents-few s (true-from (goodContents s) (p .0)) in
     record {
       few-entries = f .0;
       few-waits = f .1;
       clock-ok = true-from (goodClock s 24) (p .1 .0);
-      rows-ok = true-from (goodRows s (u32At s 8) 0 (u32At s 12)) (p .1 .1 .1 .0);
+      laid-ok = true-from (laidRows s (u32At s 8) 0 (u32At s 12)) (p .1 .1 .1 .0);
       waits-ok = true-from (goodWaits s (u32At s 16) [] (u32At s 20)) (p .1 .1 .1 .1 .1 .0);
     }
 
 module _ (s : List ℕ) where
-  told : (x : Image) → x ≡ partsImage s → x .good ≡ true → (goodParts s ≡ true) × (x ≡ imageOfBytes s)
+  told : (x : Image) → x ≡ partsImage s → x .good ≡ true → (laidParts s ≡ true) × (x ≡ imageOfBytes s)
   unfolding partsImage noImage
-  told x e g = picked-true (λ (y : Image). y .good) (goodParts s) x (imageOfBytes s) noImage e refl g
+  told x e g = picked-true (λ (y : Image). y .good) (laidParts s) x (imageOfBytes s) noImage e refl g
 
   abbrev Lines : Image → List ℕ → Type 0
   Lines x t = t ≡ killTable (dotsOf (x .clock)) (membersOf s (x .places) (x .entries)) (waitsOf s (x .starts) (x .waits)) (replicate 16 0) (replicate 1024 0)
 
-  abbrev Fit : Image → List ℕ → Bool → Type 0
-  Fit x t b = b ≡ fitAll t s (dotsOf (x .clock)) true 0 (take (x .entries) (x .places))
-
-  entries-told : goodParts s ≡ true → (t : List ℕ) (b : Bool) → Lines (imageOfBytes s) t → Fit (imageOfBytes s) t b → b ≡ every (goodEntry (imageOf s)) (imageOf s .entries)
-  unfolding imageOfBytes imageIn
-  entries-told g t b l f =
-      let z = sized s g in
-      f ∙ fit-told s (u32At s 8) (u32At s 12) (u32At s 16) (u32At s 20) (z .few-entries) (z .few-waits) (z .clock-ok) (z .rows-ok) (z .waits-ok)
-      (vclock (clockAt s 24)) (sets (replicate 64 0) 0 (placesAt s (u32At s 8) (u32At s 12))) (sets (replicate 16 0) 0 (waitPlacesAt s (u32At s 16) (u32At s 20))) t refl refl refl l
-
   abbrev Top : Image → List ℕ → Type 0
   Top x t = t ≡ topLine (dotsOf (x .clock)) (waitsOf s (x .starts) (x .waits))
 
-  abbrev Above : Image → List ℕ → Bool → Type 0
-  Above x t b = b ≡ fitAll t s (dotsOf (x .clock)) false 0 (take (x .entries) (x .places))
+  abbrev Fit : Bool → Image → List ℕ → Bool → Type 0
+  Fit own x t b = b ≡ fitAll t s (clockAt s 24) own 0 (take (x .entries) (x .places))
 
-  entries-above : goodParts s ≡ true → (t : List ℕ) (b : Bool) → Top (imageOfBytes s) t → Above (imageOfBytes s) t b → b ≡ true → every (goodEntry (imageOf s)) (imageOf s .entries) ≡ true
-  unfolding imageOfBytes imageIn
-  entries-above g t b l f y =
-      let z = sized s g in
-      above-told s (u32At s 8) (u32At s 12) (u32At s 16) (u32At s 20) (z .few-entries) (z .few-waits) (z .clock-ok) (z .rows-ok) (z .waits-ok)
-      (vclock (clockAt s 24)) (sets (replicate 64 0) 0 (placesAt s (u32At s 8) (u32At s 12))) (sets (replicate 16 0) 0 (waitPlacesAt s (u32At s 16) (u32At s 20))) t refl refl refl l (sym f ∙ y)
+  abbrev rises : Bool
+  rises = rise s (placesAt s (u32At s 8) (u32At s 12))
+
+  module _ (g : laidParts s ≡ true) (t : List ℕ) (b : Bool) where
+    fit-rises : (own : Bool) → Fit own (imageOfBytes s) t b → b ≡ true → rises ≡ true
+    unfolding imageOfBytes
+    fit-rises own f y =
+        let z = sized s g in
+        all-rise t s (clockAt s 24) own 0 (placesAt s (u32At s 8) (u32At s 12)) (stands s 24 (z .clock-ok) .rises) (rw (taken-places s (u32At s 8) (u32At s 12) (z .few-entries)) at (sym f ∙ y))
+
+    module _ (h : rises ≡ true) where
+      rows-ok : goodRows s (u32At s 8) 0 (u32At s 12) ≡ true
+      rows-ok = rows-are s (u32At s 8) 0 (u32At s 12) ∙ rw (sized s g .laid-ok) h
+
+      entries-told : Lines (imageOfBytes s) t → Fit true (imageOfBytes s) t b → b ≡ every (goodEntry (imageOf s)) (imageOf s .entries)
+      unfolding imageOfBytes imageIn
+      entries-told l f =
+          let z = sized s g in
+          f ∙ fit-told s (u32At s 8) (u32At s 12) (u32At s 16) (u32At s 20) (z .few-entries) (z .few-waits) (z .clock-ok) rows-ok (z .waits-ok) t l
+
+      entries-above : Top (imageOfBytes s) t → Fit false (imageOfBytes s) t b → b ≡ true → every (goodEntry (imageOf s)) (imageOf s .entries) ≡ true
+      unfolding imageOfBytes imageIn
+      entries-above l f y =
+          let z = sized s g in
+          above-told s (u32At s 8) (u32At s 12) (u32At s 16) (u32At s 20) (z .few-entries) (z .few-waits) (z .clock-ok) rows-ok (z .waits-ok) t l (sym f ∙ y)
 
   -- what the code may ask of the parts
   pub record Asked (x : Image) : Type 0 where
     pub entries-few : x .entries ≤ 64
-    pub clock-few : x .clock .len ≤ 16
-    pub stand : EachStands s (x .places) (x .entries)
+    pub clock-stands : Stands s 24
+    pub inside : EachInside s (x .places) (x .entries)
 
   pub asked : (x : Image) → x ≡ partsImage s → x .good ≡ true → Asked x
-  unfolding imageOfBytes imageIn vclock
+  unfolding imageOfBytes
   asked x e g =
       let r = told x e g in
       let z = sized s (r .0) in
-      let w = stands s 24 (z .clock-ok) in
-      let q = length-clockAt s 24 in
-      let n : x .entries ≡ u32At s 12 = ap (λ (y : Image). y .entries) (r .1) in
-      let l : x .clock .len ≡ length (clockAt s 24) = ap (λ (y : Image). y .clock .len) (r .1) in
-      record {
-        entries-few = omega (arith, z .few-entries);
-        clock-few = omega (arith, w .count);
-        stand = subst (λ (y : Image). EachStands s (y .places) (y .entries)) (sym (r .1)) (each-stands s (u32At s 8) (u32At s 12) (u32At s 16) (u32At s 20) (z .few-entries) (z .few-waits) (z .clock-ok) (z .rows-ok) (z .waits-ok));
-      }
+      subst (λ (y : Image). Asked y) (sym (r .1)) (record { entries-few = z .few-entries; clock-stands = stands s 24 (z .clock-ok); inside = each-inside s (u32At s 8) (u32At s 12) (z .few-entries) (z .laid-ok) })
 
-  pub check-above : (x : Image) → x ≡ partsImage s → x .good ≡ true → (t : List ℕ) (b : Bool) → Top x t → Above x t b → b ≡ true → x ≡ checkImage s
-  unfolding checkImage checksIn
-  check-above x e g t b l f y =
-      let r = told x e g in
-      r .1 ∙ sym (rw (checked s, r .0, entries-above (r .0) t b (subst (λ (z : Image). Top z t) (r .1) l) (subst (λ (z : Image). Above z t b) (r .1) f) y))
-
-  module _ (x : Image) (e : x ≡ partsImage s) (g : x .good ≡ true) (t : List ℕ) (b : Bool) (l : Lines x t) (f : Fit x t b) where
-    fit : b ≡ every (goodEntry (imageOf s)) (imageOf s .entries)
-    fit = let r = told x e g in entries-told (r .0) t b (subst (λ (y : Image). Lines y t) (r .1) l) (subst (λ (y : Image). Fit y t b) (r .1) f)
-
-    pub check-good : b ≡ true → x ≡ checkImage s
+  module _ (x : Image) (e : x ≡ partsImage s) (g : x .good ≡ true) (t : List ℕ) (b : Bool) where
+    pub check-above : Top x t → Fit false x t b → b ≡ true → x ≡ checkImage s
     unfolding checkImage checksIn
-    check-good y = let r = told x e g in r .1 ∙ sym (rw (checked s, r .0, sym fit ∙ y))
+    check-above l f y =
+        let r = told x e g in
+        let f′ = subst (λ (z : Image). Fit false z t b) (r .1) f in
+        let h = fit-rises (r .0) t b false f′ y in
+        r .1 ∙ sym (rw (checked s, parts-are s, r .0, h, entries-above (r .0) t b h (subst (λ (z : Image). Top z t) (r .1) l) f′ y))
 
-    pub check-unfit : b ≡ false → noImage ≡ checkImage s
-    unfolding checkImage checksIn
-    check-unfit y = let r = told x e g in sym (rw (checked s, r .0, sym fit ∙ y))
+    module _ (l : Lines x t) (f : Fit true x t b) where
+      fit : rises ≡ true → b ≡ every (goodEntry (imageOf s)) (imageOf s .entries)
+      fit h = let r = told x e g in entries-told (r .0) t b h (subst (λ (y : Image). Lines y t) (r .1) l) (subst (λ (y : Image). Fit true y t b) (r .1) f)
+
+      pub check-good : b ≡ true → x ≡ checkImage s
+      unfolding checkImage checksIn
+      check-good y =
+          let r = told x e g in
+          let h = fit-rises (r .0) t b true (subst (λ (y : Image). Fit true y t b) (r .1) f) y in
+          r .1 ∙ sym (rw (checked s, parts-are s, r .0, h, sym (fit h) ∙ y))
+
+      pub check-unfit : b ≡ false → noImage ≡ checkImage s
+      unfolding checkImage checksIn
+      check-unfit y = go rises refl
+        where
+          go : (c : Bool) → rises ≡ c → noImage ≡ checkImage s
+          go true h = sym (rw (checked s, parts-are s, told x e g .0, h, sym (fit h) ∙ y))
+          go false h = sym (rw (checked s, parts-are s, told x e g .0, h))
 
   pub check-bad : (x : Image) → x ≡ partsImage s → x .good ≡ false → noImage ≡ checkImage s
   unfolding checkImage checksIn partsImage imageOfBytes
-  check-bad x e g = let r = picked-false (λ (y : Image). y .good) (goodParts s) x (imageOfBytes s) noImage e refl g in sym (rw (checked s, r))
+  check-bad x e g = let r = picked-false (λ (y : Image). y .good) (laidParts s) x (imageOfBytes s) noImage e refl g in sym (rw (checked s, parts-are s, r))
 
 -- ---- the calls
 
@@ -405,7 +417,7 @@ stood s x e g =
     let h = passed s (t .0) in
     let y : x ≡ imageOfBytes s = t .1 in
     record {
-      members-stood = ap (λ (z : Image). membersOf s (z .places) (z .entries)) y ∙ ms-are s (u32At s 8) (u32At s 12) (u32At s 16) (u32At s 20) (h .few-members) (h .few-waiting) (h .clock-good) (h .rows-good) (h .waits-good);
-      waits-stood = ap (λ (z : Image). waitsOf s (z .starts) (z .waits)) y ∙ ws-are s (u32At s 8) (u32At s 12) (u32At s 16) (u32At s 20) (h .few-members) (h .few-waiting) (h .clock-good) (h .rows-good) (h .waits-good);
+      members-stood = ap (λ (z : Image). membersOf s (z .places) (z .entries)) y ∙ ms-are s (u32At s 8) (u32At s 12) (h .few-members);
+      waits-stood = ap (λ (z : Image). waitsOf s (z .starts) (z .waits)) y ∙ ws-are s (u32At s 16) (u32At s 20) (h .few-waiting) (h .waits-good);
       waits-in-order = waits-ordered s (u32At s 16) [] (u32At s 20) (h .waits-good);
     }

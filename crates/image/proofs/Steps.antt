@@ -4,6 +4,7 @@ use mathlib.Core.Path.{_≡_, refl, sym, _∙_}
 use mathlib.Core.Bool.{Bool, true, false, _&&_, and-false}
 use mathlib.Core.List.{List, [], _∷_}
 use native.Mathlib.Omega.{arith}
+use native.Mathlib.Nat.{add-zero, sub-zero}
 use native.Mathlib.Numerals.{add-one}
 use lib.Dec.{leb, eqb}
 use lib.ListN.{length, getD}
@@ -12,15 +13,16 @@ use borrow.Author.Tests.{le-leb, lt-leb, lt-ltb, le-ltb, eq-eqb, ne-eqb, leb-tru
 use Rattle.tables.specs.Table.{pick}
 use Rattle.tables.specs.Zip.{by-lt}
 use Rattle.dots.specs.declared.Dot.{Dot}
-use Rattle.dots.specs.Dot.{actorOf, noDot}
+use Rattle.dots.specs.Dot.{actorOf}
 use Rattle.dots.specs.Clock.{Clock}
 use Rattle.dots.specs.Rising.{both-left, both-right}
 use Rattle.clocks.proofs.Steps.{ahead, done}
 use Rattle.layout.specs.Fields.{u16At, u32At, u64At}
 use Rattle.layout.specs.Clock.{dotIn, dotAt, dotsAt, clockAt}
+use Rattle.layout.specs.Form.{length-listAt}
 use Rattle.layout.specs.Good.{goodContentsIn, goodContents}
 use Rattle.fields.proofs.Steps.{list-step, list-end}
-use Rattle.image.specs.Fits.{within, stepOf, fits, lineFor, fitAll}
+use Rattle.image.specs.Fits.{within, metOf, fits, lineFor, fitAll}
 
 -- ---- the contents
 
@@ -65,97 +67,119 @@ module _ (s : List ℕ) where
 
 -- ---- one dot
 
-module _ (s : List ℕ) (p left : ℕ) (d : Dot) (line : ℕ) where
-  pub step-none : left ≡ 0 → _≡_ {A = ℕ} 0 (stepOf s p left d line)
-  unfolding stepOf
-  step-none z = rw (eq-eqb left 0 z)
+module _ (s : List ℕ) (p q line : ℕ) where
+  pub met-other : (u32At s p ≡ u32At s q → ⊥) → _≡_ {A = ℕ} 0 (metOf (dotAt s p) (dotAt s q) line)
+  unfolding metOf dotIn
+  met-other n = rw (ne-eqb (u32At s p) (u32At s q) n)
 
-  module _ (l : 0 < left) where
-    some : eqb left 0 ≡ false
-    some = ne-eqb left 0 (λ z. omega arith)
+  module _ (e : u32At s p ≡ u32At s q) where
+    pub met-above : u64At s (q + 4) < u64At s (p + 4) → _≡_ {A = ℕ} 2 (metOf (dotAt s p) (dotAt s q) line)
+    unfolding metOf dotIn
+    met-above h = rw (eq-eqb (u32At s p) (u32At s q) e, lt-leb (u64At s (p + 4)) (u64At s (q + 4)) h)
 
-    pub step-some : stepOf s p left d line ≡ pick (eqb (u32At s p) (actorOf d)) (pick (within (u64At s (p + 4)) d line) 1 2) 0
-    unfolding stepOf
-    step-some = rw some
+    module _ (h : u64At s (p + 4) ≤ u64At s (q + 4)) where
+      pub met-under : u64At s (p + 4) ≤ line → _≡_ {A = ℕ} 2 (metOf (dotAt s p) (dotAt s q) line)
+      unfolding metOf dotIn
+      met-under l = rw (eq-eqb (u32At s p) (u32At s q) e, le-leb (u64At s (p + 4)) (u64At s (q + 4)) h, le-ltb line (u64At s (p + 4)) l)
 
-    module _ (e : u32At s p ≡ actorOf d) (c : ℕ) (f : c ≡ u64At s (p + 4)) where
-      pub step-above : d .counter < c → _≡_ {A = ℕ} 2 (stepOf s p left d line)
-      step-above h = let k : d .counter < u64At s (p + 4) = omega arith in sym (step-some ∙ rw (eq-eqb (u32At s p) (actorOf d) e, lt-leb (u64At s (p + 4)) (d .counter) k))
-
-      pub step-under : c ≤ d .counter → c ≤ line → _≡_ {A = ℕ} 2 (stepOf s p left d line)
-      step-under h l =
-          let k : u64At s (p + 4) ≤ d .counter = omega arith in
-          let m : u64At s (p + 4) ≤ line = omega arith in
-          sym (step-some ∙ rw (eq-eqb (u32At s p) (actorOf d) e, le-leb (u64At s (p + 4)) (d .counter) k, le-ltb line (u64At s (p + 4)) m))
-
-      pub step-within : c ≤ d .counter → line < c → _≡_ {A = ℕ} 1 (stepOf s p left d line)
-      step-within h l =
-          let k : u64At s (p + 4) ≤ d .counter = omega arith in
-          let m : line < u64At s (p + 4) = omega arith in
-          sym (step-some ∙ rw (eq-eqb (u32At s p) (actorOf d) e, le-leb (u64At s (p + 4)) (d .counter) k, lt-ltb line (u64At s (p + 4)) m))
-
-    pub step-other : (u32At s p ≡ actorOf d → ⊥) → _≡_ {A = ℕ} 0 (stepOf s p left d line)
-    step-other n = sym (step-some ∙ rw (ne-eqb (u32At s p) (actorOf d) n))
+      pub met-within : line < u64At s (p + 4) → _≡_ {A = ℕ} 1 (metOf (dotAt s p) (dotAt s q) line)
+      unfolding metOf dotIn
+      met-within l = rw (eq-eqb (u32At s p) (u32At s q) e, le-leb (u64At s (p + 4)) (u64At s (q + 4)) h, lt-ltb line (u64At s (p + 4)) l)
 
 -- ---- a turn along v
 
-fits-empty : (t : List ℕ) (q : ℕ) (v : Clock) → fits t q v [] ≡ true
+module _ (t : List ℕ) (q : ℕ) (x : Dot) (v : Clock) (d : Dot) (ds : Clock) (one : ℕ) where
+  -- what each answer says
+  record Turn : Type 0 where
+    other : one ≡ 0 → fits t (suc q) v (d ∷ ds) ≡ fits t q (x ∷ v) (d ∷ ds)
+    taken : one ≡ 1 → fits t (suc q) v ds ≡ fits t q (x ∷ v) (d ∷ ds)
+    refused : one ≡ 2 → false ≡ fits t q (x ∷ v) (d ∷ ds)
+
+  turn : one ≡ metOf d x (getD t q 0) → Turn
+  unfolding fits metOf
+  turn e = go (eqb (actorOf d) (actorOf x)) refl (within (d .counter) x (getD t q 0)) refl
+    where
+      go : (a : Bool) → eqb (actorOf d) (actorOf x) ≡ a → (w : Bool) → within (d .counter) x (getD t q 0) ≡ w → Turn
+      go true f true g = let k : one ≡ 1 = e ∙ rw (f, g) in record { other = λ z. absurd (omega arith); taken = λ z. rw (f, g); refused = λ z. absurd (omega arith) }
+      go true f false g = let k : one ≡ 2 = e ∙ rw (f, g) in record { other = λ z. absurd (omega arith); taken = λ z. absurd (omega arith); refused = λ z. rw (f, g) }
+      go false f w g = let k : one ≡ 0 = e ∙ rw f in record { other = λ z. rw f; taken = λ z. absurd (omega arith); refused = λ z. absurd (omega arith) }
+
+-- more dots than v has do not fit
+too-many : (t : List ℕ) (q : ℕ) (v ds : Clock) → length v < length ds → fits t q v ds ≡ false
 unfolding fits
-fits-empty t q [] = refl
-fits-empty t q (x ∷ v) = refl
+too-many t q [] [] h = absurd (omega arith)
+too-many t q [] (d ∷ ds) h = refl
+too-many t q (x ∷ v) [] h = absurd (omega arith)
+too-many t q (x ∷ v) (d ∷ ds) h = simp (too-many t (suc q) v ds (omega arith), too-many t (suc q) v (d ∷ ds) (omega arith), and-false) (go (eqb (actorOf d) (actorOf x)))
+  where
+    go : (b : Bool) → pick b false false ≡ false
+    go true = refl
+    go false = refl
 
-module _ (t s : List ℕ) (v : List Dot) (n i q p left : ℕ) where
-  abbrev ahead-fits : Bool
-  ahead-fits = fits t q (slice i n v) (dotsAt s p left)
+module _ (t s : List ℕ) (line k : ℕ) where
+  -- v from its dot j on, against the dots left at p
+  abbrev pub row-ahead : ℕ → ℕ → ℕ → Bool
+  row-ahead j p left = fits t (line + j) (dotsAt s (28 + 12 * j) (k - j)) (dotsAt s p left)
 
-  no-dots : left ≤ 0 → dotsAt s p left ≡ []
-  no-dots = list-end dotAt (λ s p. p + 12) s p left
-
-  first : 0 < left → dotsAt s p left ≡ dotAt s p ∷ dotsAt s (p + 12) (left - 1)
-  first l = list-step dotAt (λ s p. p + 12) s p left (left - 1) (omega arith)
-
-  pub fits-left : n ≤ i → 0 < left → false ≡ ahead-fits
+  pub row-end : (j p left : ℕ) → left ≤ 0 → true ≡ row-ahead j p left
   unfolding fits
-  fits-left h l = rw (done v i n h, first l)
+  row-end j p left h = rw (list-end dotAt (λ s p. p + 12) s p left h) (go (dotsAt s (28 + 12 * j) (k - j)))
+    where
+      go : (v : Clock) → true ≡ fits t (line + j) v []
+      go [] = refl
+      go (x ∷ v) = refl
 
-  pub fits-end : left ≤ 0 → true ≡ ahead-fits
-  fits-end l = rw (no-dots l) (sym (fits-empty t q (slice i n v)))
+  pub row-left : (j p left : ℕ) → k ≤ j → 0 < left → false ≡ row-ahead j p left
+  row-left j p left h l = sym (too-many t (line + j) (dotsAt s (28 + 12 * j) (k - j)) (dotsAt s p left) (simp length-listAt (omega arith)))
 
-  module _ (h : i < n) (k : n ≤ length v) where
+  module _ (j p left one : ℕ) (h : j < k) (l : 0 < left) (e : one ≡ metOf (dotAt s p) (dotAt s (28 + 12 * j)) (getD t (line + j) 0)) (two : one ≤ 2) where
+    abbrev x : Dot
+    x = dotAt s (28 + 12 * j)
+
+    abbrev v : Clock
+    v = dotsAt s (28 + 12 * (j + 1)) (k - (j + 1))
+
     abbrev d : Dot
-    d = getD v i noDot
+    d = dotAt s p
 
-    turn : 0 < left → ahead-fits ≡ pick (eqb (u32At s p) (actorOf d)) (within (u64At s (p + 4)) d (getD t q 0) && fits t (suc q) (slice (i + 1) n v) (dotsAt s (p + 12) (left - 1))) (fits t (suc q) (slice (i + 1) n v) (dotsAt s p left))
-    unfolding fits dotIn
-    turn l = rw (ahead v i n noDot h k, first l)
+    abbrev ds : Clock
+    ds = dotsAt s (p + 12) (left - 1)
 
-    module _ (one : ℕ) (e : one ≡ stepOf s p left d (getD t q 0)) where
-      pub fits-refused : one ≡ 2 → false ≡ ahead-fits
-      fits-refused y = by-lt 0 left
-          (λ l. sym (turn l ∙ go (eqb (u32At s p) (actorOf d)) (within (u64At s (p + 4)) d (getD t q 0)) (sym (step-some s p left d (getD t q 0) l) ∙ sym e ∙ y)))
-          (λ l. let z = step-none s p left d (getD t q 0) (omega arith) in absurd (omega arith))
-        where
-          go : (a w : Bool) → _≡_ {A = ℕ} (pick a (pick w 1 2) 0) 2 → pick a (w && fits t (suc q) (slice (i + 1) n v) (dotsAt s (p + 12) (left - 1))) (fits t (suc q) (slice (i + 1) n v) (dotsAt s p left)) ≡ false
-          go true true u = absurd (omega arith)
-          go true false u = refl
-          go false w u = absurd (omega arith)
+    clock-first : dotsAt s (28 + 12 * j) (k - j) ≡ x ∷ v
+    clock-first = let f : 28 + 12 * j + 12 ≡ 28 + 12 * (j + 1) = omega arith in rw f at (list-step dotAt (λ s p. p + 12) s (28 + 12 * j) (k - j) (k - (j + 1)) (omega arith))
 
-      -- one dot on, where it was within; none, where there is none or it is of another actor
-      pub fits-turn : (one ≡ 2 → ⊥) → (one ≤ left) × (fits t (q + 1) (slice (i + 1) n v) (dotsAt s (p + 12 * one) (left - one)) ≡ ahead-fits)
-      fits-turn y = by-lt 0 left
-          (λ l. go l (eqb (u32At s p) (actorOf d)) (within (u64At s (p + 4)) d (getD t q 0)) (e ∙ step-some s p left d (getD t q 0) l) (turn l))
-          (λ l.
-          let z = step-none s p left d (getD t q 0) (omega arith) in
-          let x : p + 12 * one ≡ p = omega arith in
-          let w : left - one ≡ left = omega arith in
-          (omega arith, rw (x, w, no-dots l) (fits-empty t (q + 1) (slice (i + 1) n v) ∙ sym (fits-empty t q (slice i n v)))))
-        where
-          go : 0 < left → (a w : Bool) → one ≡ pick a (pick w 1 2) 0
-              → ahead-fits ≡ pick a (w && fits t (suc q) (slice (i + 1) n v) (dotsAt s (p + 12) (left - 1))) (fits t (suc q) (slice (i + 1) n v) (dotsAt s p left))
-              → (one ≤ left) × (fits t (q + 1) (slice (i + 1) n v) (dotsAt s (p + 12 * one) (left - one)) ≡ ahead-fits)
-          go l true true g r = let x : p + 12 * one ≡ p + 12 = omega arith in (omega arith, rw (x, g, add-one q) (sym r))
-          go l true false g r = absurd (y g)
-          go l false w g r = let x : p + 12 * one ≡ p = omega arith in let z : left - one ≡ left = omega arith in (omega arith, rw (x, z, add-one q) (sym r))
+    row-first : dotsAt s p left ≡ d ∷ ds
+    row-first = list-step dotAt (λ s p. p + 12) s p left (left - 1) (omega arith)
+
+    here : row-ahead j p left ≡ fits t (line + j) (x ∷ v) (d ∷ ds)
+    here = rw (clock-first, row-first)
+
+    next-line : line + (j + 1) ≡ suc (line + j)
+    next-line = omega arith
+
+    turned : Turn t (line + j) x v d ds one
+    turned = turn t (line + j) x v d ds one e
+
+    pub row-refused : one ≡ 2 → false ≡ row-ahead j p left
+    row-refused y = turned .refused y ∙ sym here
+
+    pub row-taken : one ≡ 1 → row-ahead (j + 1) (p + 12) (left - 1) ≡ row-ahead j p left
+    row-taken y = rw next-line (turned .taken y) ∙ sym here
+
+    row-other : one ≡ 0 → row-ahead (j + 1) p left ≡ row-ahead j p left
+    row-other y = rw (next-line, row-first) (turned .other y) ∙ sym here
+
+    -- one dot on, where it was within; none, where it is of another actor
+    pub row-turn : (one ≡ 2 → ⊥) → row-ahead (j + 1) (p + 12 * one) (left - one) ≡ row-ahead j p left
+    row-turn y = by-lt 0 one
+        (λ h. let f : one ≡ 1 = omega arith in rw f (row-taken f))
+        (λ h. let f : one ≡ 0 = omega arith in rw f (rw (add-zero p, sub-zero left) (row-other f)))
+
+    -- as many dots as the clock has: one that is not taken is left over
+    pub row-out : k - j ≤ left → (one ≡ 1 → ⊥) → false ≡ row-ahead j p left
+    row-out m y = by-lt 0 one
+        (λ h. row-refused (omega arith))
+        (λ h. sym (too-many t (line + (j + 1)) v (dotsAt s p left) (simp length-listAt (omega arith))) ∙ row-other (omega arith))
 
 -- ---- a turn over the entries
 

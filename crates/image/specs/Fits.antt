@@ -1,24 +1,23 @@
 -- An entry's clock against the replica's clock v and the kill line of its member, in one walk along v.
-use Prim.Native.Nat.{ℕ, suc, _+_, _*_, _<_}
+use Prim.Native.Nat.{ℕ, suc, _+_, _*_, _≤_, _<_}
 use mathlib.Core.Bool.{Bool, true, false, _&&_}
 use mathlib.Core.List.{List, [], _∷_}
 use lib.Dec.{eqb, leb, ltb}
-use lib.ListN.{getD}
+use lib.ListN.{length, getD}
 use Rattle.tables.specs.Table.{pick}
 use Rattle.dots.specs.declared.Dot.{Dot}
 use Rattle.dots.specs.Dot.{actorOf}
 use Rattle.dots.specs.Clock.{Clock}
-use Rattle.layout.specs.Fields.{u32At, u64At}
 use Rattle.layout.specs.Clock.{clockAt}
-use Rattle.layout.specs.Kit.{Stands}
+use Rattle.layout.specs.Rows.{rowEnd}
 
 -- a counter that d covers, above the line
 abbrev pub within : ℕ → Dot → ℕ → Bool
 within c d line = leb c (d .counter) && ltb line c
 
--- the first of the dots left at p, if there is one: of another actor than d, within, or not
-unfoldable pub stepOf : List ℕ → ℕ → ℕ → Dot → ℕ → ℕ
-stepOf s p left d line = pick (eqb left 0) 0 (pick (eqb (u32At s p) (actorOf d)) (pick (within (u64At s (p + 4)) d line) 1 2) 0)
+-- a dot against a dot of v and its number of the line: of another actor, within, or not
+unfoldable pub metOf : Dot → Dot → ℕ → ℕ
+metOf d x line = pick (eqb (actorOf d) (actorOf x)) (pick (within (d .counter) x line) 1 2) 0
 
 -- each dot of a clock is one of v's actors, and within; number q of the table is the line's for the first actor
 unfoldable pub fits : List ℕ → ℕ → Clock → Clock → Bool
@@ -36,6 +35,6 @@ unfoldable pub fitAll : List ℕ → List ℕ → Clock → Bool → ℕ → Lis
 fitAll t s v own i [] = true
 fitAll t s v own i (p ∷ ps) = fits t (lineFor own i) v (clockAt s (p + 4)) && fitAll t s v own (suc i) ps
 
--- at each of the first n places an entry stands
-pub record EachStands (s places : List ℕ) (n : ℕ) : Type 0 where
-  pub each : (i : ℕ) → i < n → Stands s (getD places i 0 + 4)
+-- the entry at each of the first n places ends inside
+pub record EachInside (s places : List ℕ) (n : ℕ) : Type 0 where
+  pub each : (i : ℕ) → i < n → rowEnd s (getD places i 0) ≤ length s

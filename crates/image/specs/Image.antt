@@ -1,14 +1,17 @@
 -- What the check of an image answers: "the lent image is exactly its total length", and all of well-formed.
 use Prim.Native.Nat.{ℕ}
-use mathlib.Core.Bool.{true, false}
-use mathlib.Core.List.{List, []}
-use lib.ListN.{replicate}
+use mathlib.Core.Bool.{Bool, true, false}
+use mathlib.Core.List.{List, [], _∷_}
+use lib.Dec.{eqb}
+use lib.ListN.{length, replicate}
 use lib.Seq.{sets}
 use Rattle.tables.specs.Table.{pick}
 use Rattle.clocks.specs.VClock.{vclock}
-use Rattle.layout.specs.Rows.{placesAt, waitPlacesAt}
+use Rattle.layout.specs.Clock.{clockEnd}
+use Rattle.layout.specs.Rows.{placesAt, rowsEnd, waitPlacesAt, waitsEnd}
 use Rattle.layout.specs.Image.{entriesStart, entriesCount, waitsStart, waitsCount, imageOf, goodImage}
-use Rattle.layout.specs.Good.{goodParts}
+use Rattle.layout.specs.Good.{chain, goodContents, goodClock, goodWaits}
+use Rattle.scan.specs.Scan.{laidRows}
 use Rattle.image.specs.declared.Image.{Image}
 use Rattle.image.specs.declared.ClockAnswer.{ClockAnswer}
 
@@ -30,9 +33,17 @@ imageOfBytes s = record {
 unfoldable pub checkImage : List ℕ → Image
 checkImage s = pick (goodImage s) (imageOfBytes s) noImage
 
--- the parts alone, without what entries owe to the clock and to the waiting removes
+-- the parts alone, one after the other up to the end, without what entries owe to the clock, which they rise by, and to the waiting removes
+abbrev pub laidPartsTests : List ℕ → List Bool
+laidPartsTests s =
+    goodContents s ∷ goodClock s 24 ∷ eqb (entriesStart s) (clockEnd s 24) ∷ laidRows s (entriesStart s) 0 (entriesCount s)
+    ∷ eqb (waitsStart s) (rowsEnd s (entriesStart s) (entriesCount s)) ∷ goodWaits s (waitsStart s) [] (waitsCount s) ∷ []
+
+unfoldable pub laidParts : List ℕ → Bool
+laidParts s = chain (laidPartsTests s) (eqb (waitsEnd s (waitsStart s) (waitsCount s)) (length s))
+
 unfoldable pub partsImage : List ℕ → Image
-partsImage s = pick (goodParts s) (imageOfBytes s) noImage
+partsImage s = pick (laidParts s) (imageOfBytes s) noImage
 
 -- ---- the calls
 

@@ -4,12 +4,12 @@ ghost use mathlib.Core.Bool.{true};
 ghost use Prim.Native.Nat.{_+_, _*_, _<_, _≤_};
 ghost use lib.ListN.{length, take};
 ghost use Rattle.tables.specs.Table.{pick};
-ghost use Rattle.clocks.specs.VClock.{dotsOf};
+ghost use Rattle.layout.specs.Clock.{dotAt, dotsAt, clockAt};
 ghost use Rattle.layout.specs.Good.{goodContents};
+ghost use Rattle.layout.specs.Kit.{Stands};
 ghost use Rattle.image.specs.Image.{checkImage, partsImage, noImage, checkCall, clockCall};
-ghost use Rattle.image.specs.Fits.{stepOf, lineFor, fitAll, EachStands};
+ghost use Rattle.image.specs.Fits.{metOf, fits, lineFor, fitAll, EachInside};
 use clocks::VClock;
-use dots::Dot;
 use fields::clock_at;
 use fields::u16_at;
 use fields::u32_at;
@@ -119,25 +119,63 @@ fn parts(s: &[u8]) -> Image
     }
 }
 
-// The first of the dots left at a place against d and the line: 0 where there is none or it is of another actor, 1 where d covers it and it is
-// above the line, 2 where not.
-fn step(s: &[u8], p: usize, left: usize, d: Dot, line: u64) -> usize
-    requires { ⌜ p + 12 * left ≤ length (now s) ⌝ }
-    ensures { λ r. ⌜ (r ≡ stepOf (now (s .entry)) p left d line) × (r ≤ 2) ⌝ }
+// The dot at p against the clock's dot at q and the line: 0 where it is of another actor, 1 where it is covered and above the line, 2 where not.
+fn met(s: &[u8], p: usize, q: usize, line: u64) -> usize
+    requires { ⌜ (p + 12 ≤ length (now s)) × (q + 12 ≤ length (now s)) ⌝ }
+    ensures { λ r. ⌜ (r ≡ metOf (dotAt (now (s .entry)) p) (dotAt (now (s .entry)) q) line) × (r ≤ 2) ⌝ }
 {
-    if left == 0 {
+    let here = &s[p..p + 12];
+    let known = &s[q..q + 12];
+    if u32_at(here, 0) != u32_at(known, 0) {
         return 0;
     }
-    let here = &s[p..p + 12];
-    if u32_at(here, 0) == d.actor.0 {
-        let c = u64_at(here, 4);
-        if d.counter < c {
-            return 2;
-        }
-        if c <= line { 2 } else { 1 }
-    } else {
-        0
+    let c = u64_at(here, 4);
+    if u64_at(known, 4) < c {
+        return 2;
     }
+    if c <= line { 2 } else { 1 }
+}
+
+// Whether each of k dots from a place on meets the clock's dot in the same place. As many dots as the clock has fit in no other way.
+fn in_step(s: &[u8], from: usize, k: usize, lines: &[u64], line: usize) -> bool
+    requires { ⌜ (from + 12 * k ≤ length (now s)) × (28 + 12 * k ≤ length (now s)) × (line + k ≤ length (now lines)) ⌝ }
+    ensures { λ r. ⌜ r ≡ fits (now (lines .entry)) line (dotsAt (now (s .entry)) 28 k) (dotsAt (now (s .entry)) from k) ⌝ }
+{
+    let mut j: usize = 0;
+    while j < k {
+        if met(s, from + 12 * j, 28 + 12 * j, lines[line + j]) != 1 {
+            return false;
+        }
+        j += 1;
+    }
+    true
+}
+
+// Whether the clock, whose k dots stand from 28 on, covers the dots from a place on, and each is above its number of the line: one walk
+// along the clock. Dots that meet it rise, as it does.
+fn row_fits(s: &[u8], from: usize, count: usize, k: usize, lines: &[u64], line: usize) -> bool
+    requires { ⌜ (from + 12 * count ≤ length (now s)) × (28 + 12 * k ≤ length (now s)) × (line + k ≤ length (now lines)) ⌝ }
+    ensures { λ r. ⌜ r ≡ fits (now (lines .entry)) line (dotsAt (now (s .entry)) 28 k) (dotsAt (now (s .entry)) from count) ⌝ }
+{
+    if count == k {
+        return in_step(s, from, k, lines, line);
+    }
+    let mut p = from;
+    let mut left = count;
+    let mut j: usize = 0;
+    while 0 < left {
+        if k <= j {
+            return false;
+        }
+        let one = met(s, p, 28 + 12 * j, lines[line + j]);
+        if one == 2 {
+            return false;
+        }
+        p += 12 * one;
+        left -= one;
+        j += 1;
+    }
+    true
 }
 
 // Where the line of entry i stands: each has its own, or there is one for all.
@@ -148,32 +186,21 @@ fn line_for(own: bool, i: usize) -> usize
     if own { 16 * i } else { 0 }
 }
 
-// Whether v covers each of the n entries at places, and each of their dots is above its number of the entry's line: one walk along v for each.
-fn entries_fit(s: &[u8], places: [u32; 64], n: usize, v: VClock, lines: &[u64], own: bool) -> bool
-    requires { ⌜ (n ≤ 64) × (v .len ≤ 16) × (pick own 1024 16 ≤ length (now lines)) × EachStands (now s) places n ⌝ }
-    ensures { λ r. ⌜ r ≡ fitAll (now (lines .entry)) (now (s .entry)) (dotsOf v) own 0 (take n places) ⌝ }
+// Whether the image's clock covers each of the n entries at places, and each of their dots is above its number of the entry's line.
+fn entries_fit(s: &[u8], places: [u32; 64], n: usize, lines: &[u64], own: bool) -> bool
+    requires { ⌜ (n ≤ 64) × Stands (now s) 24 × (pick own 1024 16 ≤ length (now lines)) × EachInside (now s) places n ⌝ }
+    ensures { λ r. ⌜ r ≡ fitAll (now (lines .entry)) (now (s .entry)) (clockAt (now (s .entry)) 24) own 0 (take n places) ⌝ }
 {
-    let k = v.len;
+    let k = wide(u32_at(s, 24));
     let mut i: usize = 0;
     while i < n {
         let at = wide(places[i]) + 4;
-        let from = line_for(own, i);
-        let mut p = at + 4;
-        let mut left = wide(u32_at(s, at));
-        let mut j: usize = 0;
-        while j < k {
-            let one = step(s, p, left, v.dots[j], lines[from + j]);
-            if one == 2 {
-                return false;
-            }
-            p += 12 * one;
-            left -= one;
-            j += 1;
-        }
-        if 0 < left {
+        let count = wide(u32_at(s, at));
+        if row_fits(s, at + 4, count, k, lines, line_for(own, i)) {
+            i += 1;
+        } else {
             return false;
         }
-        i += 1;
     }
     true
 }
@@ -188,7 +215,7 @@ pub fn check(img: &[u8]) -> Image
         let starts = x.starts;
         let clock = x.clock;
         let top = kills::top_line(img, starts, x.waits, clock);
-        if entries_fit(img, places, x.entries, clock, &top, false) {
+        if entries_fit(img, places, x.entries, &top, false) {
             return x;
         }
         let mut lines = [0u64; 1024];
@@ -203,7 +230,7 @@ pub fn check(img: &[u8]) -> Image
             [0u64; 16],
             &mut lines,
         );
-        if entries_fit(img, places, x.entries, clock, &lines, true) {
+        if entries_fit(img, places, x.entries, &lines, true) {
             x
         } else {
             no_image()

@@ -4,7 +4,7 @@ use mathlib.Core.Path.{_≡_, refl, sym, ap, ap₂, _∙_}
 use mathlib.Core.Bool.{Bool, true, false, _&&_, and-false, false≢true}
 use mathlib.Core.List.{List, _∷_}
 use native.Mathlib.Omega.{arith}
-use lib.Dec.{leb, ltb, eqb, isEq}
+use lib.Dec.{ltb, eqb, isEq}
 use lib.ListN.{length, getD, take, drop}
 use lib.Seq.{getD-take, getD-drop}
 use native.Mathlib.Nat.{add-zero, add-assoc}
@@ -20,10 +20,10 @@ use Rattle.replica.specs.Limits.{full}
 use Rattle.layout.specs.Fields.{u32At, u64At}
 use Rattle.layout.specs.Clock.{narrow, dotIn, dotAt, dotsAt, clockIn, clockAt, clockEnd, clockEndIn}
 use Rattle.layout.specs.Rows.{membersAt, rowEnd, rowEndIn, waitEnd, waitEndIn}
-use Rattle.layout.specs.Good.{risingMembers, goodMembersIn, goodMembers, goodClockIn, goodClock, chain, rowTests, waitTests}
+use Rattle.layout.specs.Good.{risingMembers, goodMembersIn, goodMembers, goodClockIn, goodClock, chain, waitTests}
 use Rattle.layout.specs.Kit.{stands}
 use Rattle.fields.proofs.Steps.{list-step, list-end}
-use Rattle.scan.specs.Scan.{DotsIn, clockEnds, membersEnd, rowEnds, waitEnds}
+use Rattle.scan.specs.Scan.{DotsIn, clockEnds, membersEnd, laidTests, rowEnds, waitEnds}
 
 -- ---- numbers in a part of the bytes
 
@@ -249,33 +249,37 @@ clock-in s p q e z = go (goodClock s p) refl e
 module _ (s : List ℕ) (p low : ℕ) where
   pub row-low : u32At s p < low → 0 ≡ rowEnds s p low
   unfolding rowEnds
-  row-low h = simp (lt-leb low (u32At s p) h, and-false)
+  row-low h = rw (lt-leb low (u32At s p) h)
 
   pub row-empty : u32At s (p + 4) ≡ 0 → 0 ≡ rowEnds s p low
   unfolding rowEnds
   row-empty h = simp (le-ltb 0 (u32At s (p + 4)) (omega arith), and-false)
 
-  pub row-clock : low ≤ u32At s p → (u32At s (p + 4) ≡ 0 → ⊥) → clockEnds s (p + 4) ≡ rowEnds s p low
-  unfolding rowEnds clockEnds rowEndIn
-  row-clock h z = rw (le-leb low (u32At s p) h, lt-ltb 0 (u32At s (p + 4)) (omega arith)) (go (goodClock s (p + 4)) refl)
-    where
-      go : (b : Bool) → goodClock s (p + 4) ≡ b → pick b (clockEnd s (p + 4)) 0 ≡ pick (leb (p + 4) (length s) && (true && (b && (true && true)))) (clockEnd s (p + 4)) 0
-      go true e = let w = stands s (p + 4) e in rw (le-leb (p + 4) (length s) (omega (arith, w .room)))
-      go false e = rw and-false
+  pub row-many : 16 < u32At s (p + 4) → 0 ≡ rowEnds s p low
+  unfolding rowEnds
+  row-many h = simp (lt-leb (u32At s (p + 4)) 16 h, and-false)
 
-  pub row-none : (e : ℕ) → e ≡ rowEnds s p low → e ≡ 0 → chain (rowTests narrow full s p low) true ≡ false
+  pub row-no-room : length s < rowEnd s p → 0 ≡ rowEnds s p low
+  unfolding rowEnds
+  row-no-room h = simp (lt-leb (rowEnd s p) (length s) h, and-false)
+
+  pub row-stands : low ≤ u32At s p → (u32At s (p + 4) ≡ 0 → ⊥) → u32At s (p + 4) ≤ 16 → rowEnd s p ≤ length s → rowEnd s p ≡ rowEnds s p low
+  unfolding rowEnds
+  row-stands h z n room = rw (le-leb low (u32At s p) h, lt-ltb 0 (u32At s (p + 4)) (omega arith), le-leb (u32At s (p + 4)) 16 n, le-leb (rowEnd s p) (length s) room)
+
+  pub row-none : (e : ℕ) → e ≡ rowEnds s p low → e ≡ 0 → chain (laidTests s p low) true ≡ false
   unfolding rowEnds rowEndIn
-  row-none e w z = go (chain (rowTests narrow full s p low) true) refl (sym w ∙ z)
+  row-none e w z = go (chain (laidTests s p low) true) refl (sym w ∙ z)
     where
-      go : (b : Bool) → chain (rowTests narrow full s p low) true ≡ b → pick b (clockEnd s (p + 4)) 0 ≡ 0 → b ≡ false
+      go : (b : Bool) → chain (laidTests s p low) true ≡ b → pick b (clockEnd s (p + 4)) 0 ≡ 0 → b ≡ false
       go true f u = absurd (clock-end-some s (p + 4) u)
       go false f u = refl
 
-  pub row-some : (e : ℕ) → e ≡ rowEnds s p low → (e ≡ 0 → ⊥) → (chain (rowTests narrow full s p low) true ≡ true) × (e ≡ rowEnd s p)
+  pub row-some : (e : ℕ) → e ≡ rowEnds s p low → (e ≡ 0 → ⊥) → (chain (laidTests s p low) true ≡ true) × (e ≡ rowEnd s p)
   unfolding rowEnds
-  row-some e w z = go (chain (rowTests narrow full s p low) true) refl w
+  row-some e w z = go (chain (laidTests s p low) true) refl w
     where
-      go : (b : Bool) → chain (rowTests narrow full s p low) true ≡ b → e ≡ pick b (rowEnd s p) 0 → (b ≡ true) × (e ≡ rowEnd s p)
+      go : (b : Bool) → chain (laidTests s p low) true ≡ b → e ≡ pick b (rowEnd s p) 0 → (b ≡ true) × (e ≡ rowEnd s p)
       go true f u = (refl, u)
       go false f u = absurd (z u)
 

@@ -1,23 +1,25 @@
 -- One turn of the loops over entries and over waiting removes, and what each ending says of the whole.
-use Prim.Native.Nat.{ℕ, _+_, _≤_, _<_}
+use Prim.Native.Nat.{ℕ, suc, _+_, _≤_, _<_}
 use mathlib.Core.Path.{_≡_, refl, sym, _∙_}
 use mathlib.Core.Bool.{Bool, true, false, _&&_, and-false}
 use mathlib.Core.List.{List, [], _∷_}
 use native.Mathlib.Omega.{arith}
 use native.Mathlib.Numerals.{add-one}
+use lib.Dec.{leb→le}
 use lib.ListN.{length, set, replicate}
 use lib.Seq.{sets}
 use borrow.Author.Tests.{le-leb, lt-leb}
 use Rattle.dots.specs.Clock.{Clock}
+use Rattle.dots.specs.Rising.{true-from}
 use Rattle.replica.specs.Limits.{full}
 use Rattle.layout.specs.Fields.{u32At}
 use Rattle.layout.specs.Lists.{startsAt, endAfter, listAt}
 use Rattle.layout.specs.Clock.{narrow, clockIn, clockAt}
 use Rattle.layout.specs.Rows.{rowEnd, placesAt, rowsEnd, waitEnd, waitPlacesAt, waitsEnd}
-use Rattle.layout.specs.Good.{goodRowsIn, goodRows, goodWaitsIn, goodWaits, chain, rowTests, waitTests}
-use Rattle.layout.specs.Kit.{stands, starts-step, end-step, first-row, first-wait}
+use Rattle.layout.specs.Good.{goodWaitsIn, goodWaits, chain, waitTests}
+use Rattle.layout.specs.Kit.{each-from, stands, starts-step, end-step, first-wait}
 use Rattle.fields.proofs.Steps.{u32-past}
-use Rattle.scan.specs.Scan.{DotsIn, rowEnds, waitEnds, rowsTable, noTable, waitsTable, noWaits}
+use Rattle.scan.specs.Scan.{DotsIn, laidTests, rowEnds, laidRows, waitEnds, rowsTable, noTable, waitsTable, noWaits}
 use Rattle.scan.proofs.Steps.{row-none, row-some, wait-none, wait-some}
 
 pub chain-last : (ts : List Bool) (b : Bool) → chain ts b ≡ (chain ts true && b)
@@ -38,14 +40,14 @@ module _ (end : List ℕ → ℕ → ℕ) (s : List ℕ) (p k j next : ℕ) (e :
   places-turn places i = rw (n, starts-step end s p k j e, add-one)
 
 module _ (s : List ℕ) (p low k j : ℕ) (e : k ≡ j + 1) (next : ℕ) (w : next ≡ rowEnds s p low) where
-  step : goodRows s p low k ≡ (chain (rowTests narrow full s p low) true && goodRows s (rowEnd s p) (u32At s p + 1) j)
-  unfolding goodRowsIn
-  step = rw (e, add-one j) (chain-last (rowTests narrow full s p low) (goodRows s (rowEnd s p) (u32At s p + 1) j))
+  step : laidRows s p low k ≡ (chain (laidTests s p low) true && laidRows s (rowEnd s p) (u32At s p + 1) j)
+  unfolding laidRows
+  step = rw (e, add-one j) (chain-last (laidTests s p low) (laidRows s (rowEnd s p) (u32At s p + 1) j))
 
-  pub rows-stop : next ≡ 0 → goodRows s p low k ≡ false
+  pub rows-stop : next ≡ 0 → laidRows s p low k ≡ false
   rows-stop z = step ∙ rw (row-none s p low next w z)
 
-  pub rows-turn : (next ≡ 0 → ⊥) → goodRows s next (u32At s p + 1) j ≡ goodRows s p low k
+  pub rows-turn : (next ≡ 0 → ⊥) → laidRows s next (u32At s p + 1) j ≡ laidRows s p low k
   rows-turn z = let r = row-some s p low next w z in rw (r .1) (sym (step ∙ rw (r .0)))
 
 module _ (s : List ℕ) (p : ℕ) (last : Clock) (k j : ℕ) (e : k ≡ j + 1) (next : ℕ) (w : next ≡ waitEnds s p last) where
@@ -59,10 +61,22 @@ module _ (s : List ℕ) (p : ℕ) (last : Clock) (k j : ℕ) (e : k ≡ j + 1) (
   pub waits-turn : (next ≡ 0 → ⊥) → goodWaits s next (clockAt s p) j ≡ goodWaits s p last k
   waits-turn z = let r = wait-some s p last next w z in rw (r .1) (sym (step-wait ∙ rw (r .0)))
 
+-- an entry that is laid, and the ones after it
+pub record EntryLaid (s : List ℕ) (p low n : ℕ) : Type 0 where
+  pub inside : rowEnd s p ≤ length s
+  pub others : laidRows s (rowEnd s p) (u32At s p + 1) n ≡ true
+
+pub first-laid : (s : List ℕ) (p low n : ℕ) → laidRows s p low (suc n) ≡ true → EntryLaid s p low n
+unfolding laidRows
+first-laid s p low n e =
+    let r = laidRows s (rowEnd s p) (u32At s p + 1) n in
+    let h = each-from (laidTests s p low) r (rw e tt) in
+    record { inside = leb→le (rowEnd s p) (length s) (h .1 .1 .1 .0); others = true-from r (h .1 .1 .1 .1) }
+
 -- what stands ends inside
 pub row-inside : (s : List ℕ) (p low next : ℕ) → next ≡ rowEnds s p low → (next ≡ 0 → ⊥) → next ≤ length s
-unfolding goodRowsIn
-row-inside s p low next w z = let r = row-some s p low next w z in rw (r .1) (first-row s p low 0 (r .0) .inside)
+unfolding laidRows
+row-inside s p low next w z = let r = row-some s p low next w z in rw (r .1) (first-laid s p low 0 (r .0) .inside)
 
 pub wait-inside : (s : List ℕ) (p : ℕ) (last : Clock) (next : ℕ) → next ≡ waitEnds s p last → (next ≡ 0 → ⊥) → next ≤ length s
 unfolding goodWaitsIn
@@ -95,7 +109,7 @@ module _ (s : List ℕ) (at n : ℕ) where
   unfolding rowsTable
   rows-past h = simp (lt-leb at (length s) h, and-false)
 
-  pub rows-bad : goodRows s at 0 n ≡ false → noTable ≡ rowsTable s at n
+  pub rows-bad : laidRows s at 0 n ≡ false → noTable ≡ rowsTable s at n
   unfolding rowsTable
   rows-bad h = simp (h, and-false)
 
@@ -116,12 +130,12 @@ module _ (s : List ℕ) (at n : ℕ) where
   waits-bad h = simp (h, and-false)
 
   module _ (hl : length s ≤ 4294967295) (ha : at ≤ length s) where
-    pub rows-good : n ≤ 64 → (p low k i : ℕ) (places : List ℕ) → k ≤ 0 → goodRows s p low k ≡ goodRows s at 0 n → rowsEnd s p k ≡ rowsEnd s at n
+    pub rows-good : n ≤ 64 → (p low k i : ℕ) (places : List ℕ) → k ≤ 0 → laidRows s p low k ≡ laidRows s at 0 n → rowsEnd s p k ≡ rowsEnd s at n
         → sets places i (placesAt s p k) ≡ sets (replicate 64 0) 0 (placesAt s at n) → record { good = true; next = p; places = places } ≡ rowsTable s at n
-    unfolding rowsTable goodRowsIn endAfter startsAt
+    unfolding rowsTable laidRows endAfter startsAt
     rows-good hn p low k i places z g h q =
         let e : k ≡ 0 = omega arith in
-        let g′ : goodRows s at 0 n ≡ true = sym g ∙ rw e in
+        let g′ : laidRows s at 0 n ≡ true = sym g ∙ rw e in
         let h′ : rowsEnd s at n ≡ p = sym h ∙ rw e in
         let q′ : sets (replicate 64 0) 0 (placesAt s at n) ≡ places = sym q ∙ rw e in
         rw (le-leb n 64 hn, le-leb (length s) 4294967295 hl, le-leb at (length s) ha, g′, h′, q′)

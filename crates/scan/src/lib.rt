@@ -193,7 +193,7 @@ fn clock_less(s: &[u8], p: usize, q: usize) -> bool
     i < m
 }
 
-// The place after the entry at a place; 0 where none stands whose member is at least low and whose clock is not empty.
+// The place after the entry at a place; 0 where none is laid whose member is at least low: whether its dots rise is not looked at.
 fn row_ends(s: &[u8], p: usize, low: usize) -> usize
     requires { ⌜ p < 70368744177664 ⌝ }
     ensures { λ r. ⌜ r ≡ rowEnds (now (s .entry)) p low ⌝ }
@@ -201,10 +201,18 @@ fn row_ends(s: &[u8], p: usize, low: usize) -> usize
     if wide(u32_at(s, p)) < low {
         return 0;
     }
-    if u32_at(s, p + 4) == 0 {
+    let dots = wide(u32_at(s, p + 4));
+    if dots == 0 {
         return 0;
     }
-    clock_ends(s, p + 4)
+    if 16 < dots {
+        return 0;
+    }
+    let end = p + 8 + 12 * dots;
+    if s.len() < end {
+        return 0;
+    }
+    end
 }
 
 // The place after the waiting remove at a place; 0 where none stands whose clock is after the one at `last`.

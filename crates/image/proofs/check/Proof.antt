@@ -8,7 +8,7 @@ use Rattle.image.proofs.check.Statement.{statement}
 use Rattle.image.proofs.check.Tie as tie
 
 entries-fit-requires : tie.Need-entries-fit-requires
-entries-fit-requires c κs = let r = asked (c .before .before .before .before .before .before .before .before .args .img .now) (c .before .before .before .before .before .before .parts .result) (c .before .before .before .before .before .before .parts .ensures) (c .before .before .before .before .before .if1 .taken) in (r .entries-few, r .clock-few, search needs, r .stand)
+entries-fit-requires c κs = let r = asked (c .before .before .before .before .before .before .before .before .args .img .now) (c .before .before .before .before .before .before .parts .result) (c .before .before .before .before .before .before .parts .ensures) (c .before .before .before .before .before .if1 .taken) in (r .entries-few, r .clock-stands, search needs, r .inside)
 
 returns : tie.Need-returns
 returns c = check-above (c .before .before .before .before .before .before .before .before .before .before .args .img .now) (c .before .before .before .before .before .before .before .before .parts .result) (c .before .before .before .before .before .before .before .before .parts .ensures) (c .before .before .before .before .before .before .before .if1 .taken) _ _ (c .before .before .before .top-line .ensures) (c .before .entries-fit .ensures) (c .if2 .taken)
@@ -17,7 +17,7 @@ slice-aggregate-entries-fit-2 : tie.Need-slice-aggregate-entries-fit-2
 slice-aggregate-entries-fit-2 c = let long : length (c .before .kill-lines .last .1 .1 .1 .1 .1 .1 .1 .1 .0) ≡ 1024 = ap length (c .before .kill-lines .ensures) ∙ length-table _ _ _ _ _ in search needs
 
 entries-fit-requires-2 : tie.Need-entries-fit-requires-2
-entries-fit-requires-2 c κs = let r = asked (c .before .before .before .before .before .before .before .before .before .before .before .before .before .args .img .now) (c .before .before .before .before .before .before .before .before .before .before .before .parts .result) (c .before .before .before .before .before .before .before .before .before .before .before .parts .ensures) (c .before .before .before .before .before .before .before .before .before .before .if1 .taken) in let long = ap length (c .before .kill-lines .ensures) ∙ length-table _ _ _ _ _ in (r .entries-few, r .clock-few, omega arith, r .stand)
+entries-fit-requires-2 c κs = let r = asked (c .before .before .before .before .before .before .before .before .before .before .before .before .before .args .img .now) (c .before .before .before .before .before .before .before .before .before .before .before .parts .result) (c .before .before .before .before .before .before .before .before .before .before .before .parts .ensures) (c .before .before .before .before .before .before .before .before .before .before .if1 .taken) in let long = ap length (c .before .kill-lines .ensures) ∙ length-table _ _ _ _ _ in (r .entries-few, r .clock-stands, omega arith, r .inside)
 
 returns-2 : tie.Need-returns-2
 returns-2 c = check-good (c .before .before .before .before .before .before .before .before .before .before .before .before .before .before .before .args .img .now) (c .before .before .before .before .before .before .before .before .before .before .before .before .before .parts .result) (c .before .before .before .before .before .before .before .before .before .before .before .before .before .parts .ensures) (c .before .before .before .before .before .before .before .before .before .before .before .before .if1 .taken) _ _ (c .before .before .before .kill-lines .ensures) (c .before .entries-fit2 .ensures) (c .if3 .taken)

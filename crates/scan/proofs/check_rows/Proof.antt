@@ -1,6 +1,6 @@
 use Rattle.scan.proofs.Tables.{end-turn, places-turn, rows-stop, rows-turn, row-inside, rows-many, rows-long, rows-past, rows-bad, rows-good}
 use Rattle.scan.proofs.Steps.{row-some}
-use Rattle.layout.specs.Good.{goodRows}
+use Rattle.scan.specs.Scan.{laidRows}
 use Rattle.layout.specs.Rows.{rowEnd, rowsEnd, placesAt}
 use Rattle.layout.specs.Fields.{u32At}
 use lib.Seq.{sets}
@@ -16,7 +16,7 @@ use Rattle.scan.proofs.check_rows.Tie as tie
 abbrev Inv-loop : tie.InvT-loop
 Inv-loop s at count places₀ p₀ low₀ i₀ places p low i =
     (i ≤ count) × (p ≤ length s) × (length places ≡ 64)
-    × (goodRows s p low (count - i) ≡ goodRows s at 0 count)
+    × (laidRows s p low (count - i) ≡ laidRows s at 0 count)
     × (rowsEnd s p (count - i) ≡ rowsEnd s at count)
     × (sets places i (placesAt s p (count - i)) ≡ sets places₀ 0 (placesAt s at count))
 
