@@ -17,6 +17,7 @@ pub mod Link
 pub mod AlongSteps
 pub mod Results
 pub mod Merges
+pub mod SpareSteps
 pub mod ResetLists
 pub mod ResetSteps
 pub mod Seen
