@@ -217,7 +217,8 @@ module _ (s : List ℕ) (x : Image) (cx : x ≡ checkImage s) (g : x .good ≡ t
 
       module _ (b : List ℕ) (eb : b ≡ encode B) (v settled : VClock) (few-v : v .len ≤ 16) (normal-v : Normal clocks (dotsOf v)) (few-settled : settled .len ≤ 16) (normal-settled : Normal clocks (dotsOf settled)) where
         pub draft-ready : Along (dotsOf v) (A .clock) → (0 < n → Along (dotsOf v) (dotsOf c)) → Held s x × Held b y × WaitsReady (dotsOf settled) s (waitsStart s) (x .waits) b (waitsStart b) l × (v .len ≤ 16) × (settled .len ≤ 16) × Rise dots (dotsOf v) × (startOf v ≤ 220)
-            × Goes (map (λ d. actorOf d) (dotsOf v)) (A .entries) × Goes (map (λ d. actorOf d) (dotsOf v)) (imageOf b .entries)
+            × Goes (map (λ d. actorOf d) (dotsOf v)) (A .entries) × Goes (map (λ d. actorOf d) (dotsOf v)) (imageOf b .entries) × (goodImage s ≡ true) × (x .waits ≡ waitsCount s)
+        unfolding imageOfBytes
         draft-ready av ac = rw (eb, Y .image) (
           held-image s x good told,
           Y .held,
@@ -228,6 +229,8 @@ module _ (s : List ℕ) (x : Image) (cx : x ≡ checkImage s) (g : x .good ≡ t
           omega arith,
           goes-image (dotsOf v) normal-v s good av,
           goes-brought (dotsOf v) normal-v (dotsOf c) (take n (m .at)) (S .normal) (λ h. ac (let k = length-take n (m .at) in omega arith)),
+          good,
+          ap (λ (z : Image). z .waits) told,
         )
 
         pub side-finished : (d : Draft) (out body before : List ℕ) (r : Written) (after : List ℕ) → length out ≡ 18268

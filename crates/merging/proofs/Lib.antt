@@ -14,6 +14,7 @@ pub mod WaitLoop
 pub mod DraftSteps
 pub mod Sides
 pub mod Link
+pub mod CopyAll
 pub mod AlongSteps
 pub mod Results
 pub mod Merges

@@ -114,7 +114,8 @@ module _ (a : List ℕ) (x : Image) (cx : x ≡ checkImage a) (gx : x .good ≡ 
 
     -- what the draft is asked with
     pub merge-ready : Held a x × Held b y × WaitsReady (dotsOf (m .clock)) a (waitsStart a) (x .waits) b (waitsStart b) (y .waits) × (m .clock .len ≤ 16) × (m .clock .len ≤ 16) × Rise dots (dotsOf (m .clock)) × (startOf (m .clock) ≤ 220)
-        × Goes (map (λ d. actorOf d) (dotsOf (m .clock))) (imageOf a .entries) × Goes (map (λ d. actorOf d) (dotsOf (m .clock))) (imageOf b .entries)
+        × Goes (map (λ d. actorOf d) (dotsOf (m .clock))) (imageOf a .entries) × Goes (map (λ d. actorOf d) (dotsOf (m .clock))) (imageOf b .entries) × (goodImage a ≡ true) × (x .waits ≡ waitsCount a)
+    unfolding imageOfBytes
     merge-ready =
         let c = clock-merged in
         let f = c .few in (
@@ -127,6 +128,8 @@ module _ (a : List ℕ) (x : Image) (cx : x ≡ checkImage a) (gx : x .good ≡ 
           omega arith,
           goes-image (dotsOf (m .clock)) (c .normal) a ga (rw (c .dots-are) (λ i z. let k = merged-count (imageOf a .clock) (imageOf b .clock) i in omega arith)),
           goes-image (dotsOf (m .clock)) (c .normal) b gb (rw (c .dots-are) (λ i z. let k = merged-count (imageOf a .clock) (imageOf b .clock) i in omega arith)),
+          ga,
+          ap (λ (z : Image). z .waits) ex,
         )
 
     granted-formed : broken full (merge (imageOf a) (imageOf b)) ≡ 0 → T (wellFormed full (merge (imageOf a) (imageOf b)))

@@ -1,5 +1,6 @@
 // A result as a draft: the entries and waiting removes that stay of two sides, where they stand in the result's image.
 ghost use mathlib.Core.Path.{_≡_};
+ghost use mathlib.Core.Bool.{true};
 ghost use mathlib.Core.List.{map};
 ghost use Prim.Native.Nat.{_+_, _*_, _<_, _≤_};
 ghost use lib.Dec.{ltb};
@@ -10,7 +11,7 @@ ghost use Rattle.dots.specs.Clock.{count};
 ghost use Rattle.clocks.specs.VClock.{dotsOf};
 ghost use Rattle.layout.specs.Clock.{dotsAt};
 ghost use Rattle.layout.specs.Rows.{waitsAt};
-ghost use Rattle.layout.specs.Image.{imageOf, waitsStart};
+ghost use Rattle.layout.specs.Image.{imageOf, goodImage, waitsStart, waitsCount};
 ghost use Rattle.changing.specs.Kept.{keptEntries};
 ghost use Rattle.changing.specs.KeptWaits.{keptWaits};
 ghost use Rattle.merging.specs.Rowing.{Goes, WroteRows};
@@ -20,6 +21,7 @@ use crate::ahead::index;
 use crate::entries::Rows;
 use crate::entries::merge_entries;
 use crate::waits::Waits;
+use crate::waits::copy_waits;
 use crate::waits::merge_waits;
 use clocks::VClock;
 use image::Image;
@@ -144,22 +146,18 @@ pub(crate) fn keep_entries(
     )
 }
 
-// The waiting removes of two sides, joined by equal clock, less those that v covers, written from `at` on: a has m from p on, b has l from q on.
-pub(crate) fn keep_waits(
-    a: &[u8],
-    p: usize,
-    m: usize,
-    b: &[u8],
-    q: usize,
-    l: usize,
-    v: VClock,
-    out: &mut [u8],
-    at: usize,
-) -> Waits
-    requires { ⌜ WaitsReady (dotsOf v) (now a) p m (now b) q l × (v .len ≤ 16) × (at < 4294967296) ⌝ }
-    ensures { λ r. ⌜ WroteWaits (now (out .entry)) at (keptWaits (dotsOf v) (waitsAt (now (a .entry)) p m) (waitsAt (now (b .entry)) q l)) (now (out .exit)) r ⌝ }
+// The waiting removes of two sides, m of the image a and l of b, joined by equal clock, less those that v covers: written from `at` on. Where b
+// brings none and v is empty they all stay.
+fn keep_waits(a: &[u8], m: usize, b: &[u8], l: usize, v: VClock, out: &mut [u8], at: usize) -> Waits
+    requires { ⌜ WaitsReady (dotsOf v) (now a) (waitsStart (now a)) m (now b) (waitsStart (now b)) l × (v .len ≤ 16) × (at < 4294967296) × (goodImage (now a) ≡ true) × (m ≡ waitsCount (now a)) ⌝ }
+    ensures { λ r. ⌜ WroteWaits (now (out .entry)) at (keptWaits (dotsOf v) (waitsAt (now (a .entry)) (waitsStart (now (a .entry))) m) (waitsAt (now (b .entry)) (waitsStart (now (b .entry))) l)) (now (out .exit)) r ⌝ }
 {
     let n = v.len;
+    if l + n == 0 {
+        return copy_waits(a, out, at);
+    }
+    let p = index(fields::u32_at(a, 16));
+    let q = index(fields::u32_at(b, 16));
     let actors = actors_of(v);
     let line = counters_of(v);
     merge_waits(a, p, m, b, q, l, &actors, n, &line, out, at)
@@ -178,21 +176,11 @@ pub(crate) fn drafted(
     out: &mut [u8],
     start: usize,
 ) -> Draft
-    requires { ⌜ Held (now a) x × Held (now b) y × WaitsReady (dotsOf settled) (now a) (waitsStart (now a)) (x .waits) (now b) (waitsStart (now b)) l × (v .len ≤ 16) × (settled .len ≤ 16) × Rise dots (dotsOf v) × (start ≤ 220) × Goes (map (λ d. actorOf d) (dotsOf v)) (imageOf (now a) .entries) × Goes (map (λ d. actorOf d) (dotsOf v)) (imageOf (now b) .entries) ⌝ }
+    requires { ⌜ Held (now a) x × Held (now b) y × WaitsReady (dotsOf settled) (now a) (waitsStart (now a)) (x .waits) (now b) (waitsStart (now b)) l × (v .len ≤ 16) × (settled .len ≤ 16) × Rise dots (dotsOf v) × (start ≤ 220) × Goes (map (λ d. actorOf d) (dotsOf v)) (imageOf (now a) .entries) × Goes (map (λ d. actorOf d) (dotsOf v)) (imageOf (now b) .entries) × (goodImage (now a) ≡ true) × (x .waits ≡ waitsCount (now a)) ⌝ }
     ensures { λ r. ⌜ DraftOf (keptEntries (map (λ d. actorOf d) (dotsOf v)) (imageOf (now (a .entry))) (imageOf (now (b .entry)))) (keptWaits (dotsOf settled) (waitsAt (now (a .entry)) (waitsStart (now (a .entry))) (x .waits)) (waitsAt (now (b .entry)) (waitsStart (now (b .entry))) l)) start r (now (out .entry)) (now (out .exit)) ⌝ }
 {
     let e = keep_entries(a, x, b, y, v, out, start);
-    let w = keep_waits(
-        a,
-        index(fields::u32_at(a, 16)),
-        x.waits,
-        b,
-        index(fields::u32_at(b, 16)),
-        l,
-        settled,
-        out,
-        e.at,
-    );
+    let w = keep_waits(a, x.waits, b, l, settled, out, e.at);
     Draft {
         entries: e.n as u32,
         waits: w.n as u32,

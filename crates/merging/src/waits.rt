@@ -12,6 +12,7 @@ ghost use Rattle.dots.specs.Covering.{coverOf};
 ghost use Rattle.replica.specs.Replica.{waits};
 ghost use Rattle.layout.specs.Clock.{dotAt, dotsAt, clockAt, clockEnd};
 ghost use Rattle.layout.specs.Rows.{membersAt, waitsAt};
+ghost use Rattle.layout.specs.Image.{imageOf, goodImage};
 ghost use Rattle.changing.specs.KeptWaits.{bothSets, keptWaits};
 ghost use Rattle.merging.specs.Waiting.{orderOf, dotsFrom, Named, MembersReady, WroteMembers, PartAt, Whole, Next, PutWait, WaitsAhead, MergedWait, WaitsReady, WroteWaits};
 use crate::ahead::index;
@@ -393,4 +394,22 @@ pub(crate) fn merge_waits(
         w = merge_wait(s, t, actors, k, line, out, w);
     }
     w
+}
+
+// The waiting removes of an image, its last part, copied as they stand: written from `at` on.
+pub(crate) fn copy_waits(img: &[u8], out: &mut [u8], at: usize) -> Waits
+    requires { ⌜ (goodImage (now img) ≡ true) × (at < 4294967296) ⌝ }
+    ensures { λ r. ⌜ WroteWaits (now (out .entry)) at (imageOf (now (img .entry)) .waiting) (now (out .exit)) r ⌝ }
+{
+    let q = index(fields::u32_at(img, 16));
+    results::copy(img, q, img.len(), out, at);
+    Waits {
+        p: 0,
+        m: 0,
+        q: 0,
+        k: 0,
+        at: at + (img.len() - q),
+        n: index(fields::u32_at(img, 20)),
+        most: 0,
+    }
 }
