@@ -9,6 +9,8 @@ pub mod RowLoop
 pub mod OrderSteps
 pub mod NameSteps
 pub mod CopySteps
+pub mod SiftSteps
+pub mod SiftLoop
 pub mod WaitSteps
 pub mod WaitLoop
 pub mod DraftSteps

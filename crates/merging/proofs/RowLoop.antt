@@ -37,14 +37,14 @@ keep-same la la′ lb lb′ u w (inr p) (inl q) = rw (p, q, le-ltb la 0 (omega a
 keep-same la la′ lb lb′ u w (inr p) (inr q) = rw (p, q)
 
 -- what a side reads for an actor, or that it has no dots
-abbrev Or : Clock → (ℕ → Type 0) → Type 0
+abbrev pub Or : Clock → (ℕ → Type 0) → Type 0
 Or x P = (x ≡ []) ⊎ ((i : ℕ) → P i)
 
 module _ (vs ka : List ℕ) (ja : ℕ) (kb : List ℕ) (ib N : ℕ) (f g : ℕ → ℕ) where
-  abbrev Ours : ℕ → Type 0
+  abbrev pub Ours : ℕ → Type 0
   Ours i = i < N → getD ka (ja + i) 0 ≡ f (getD vs i 0)
 
-  abbrev Theirs : ℕ → Type 0
+  abbrev pub Theirs : ℕ → Type 0
   Theirs i = i < N → getD kb (ib + i) 0 ≡ g (getD vs i 0)
 
   or-past : (x : Clock) (P : ℕ → Type 0) (a : ℕ) → Or x P → Or (past dots a x) P
@@ -55,7 +55,7 @@ module _ (vs ka : List ℕ) (ja : ℕ) (kb : List ℕ) (ib N : ℕ) (f g : ℕ �
   or-said x P a k h (inl e) = inl (rw e)
   or-said x P a k h (inr p) = inr (h (p k))
 
-  lines-walked : (k n : ℕ) (x y : Clock) → k + n ≤ N → Or x Theirs → Or y Ours
+  pub lines-walked : (k n : ℕ) (x y : Clock) → k + n ≤ N → Or x Theirs → Or y Ours
       → keptAlong (linesFrom vs ka ja kb ib k n) x y ≡ walked dots (λ a. keepOf (f a) (g a)) (actorsFrom vs k n) x y
   unfolding linesFrom keptAlong walked
   lines-walked k zero x y h p q = refl
@@ -93,7 +93,7 @@ length-some : (e : ℕ) (K : Clock) → length (cons? (entry? e K) []) ≤ 1
 length-some e [] = omega arith
 length-some e (d ∷ K) = omega arith
 
-drop-tail : (es : List Entry) (i : ℕ) → tail (drop i es) ≡ drop (suc i) es
+pub drop-tail : (es : List Entry) (i : ℕ) → tail (drop i es) ≡ drop (suc i) es
 drop-tail [] zero = refl
 drop-tail (e ∷ es) zero = refl
 drop-tail [] (suc i) = refl

@@ -44,7 +44,7 @@ keyed : (s : List ℕ) (p : ℕ) → entryRows .key (rowAt s p) ≡ u32At s p
 unfolding rowIn
 keyed s p = refl
 
-row-end : (s : List ℕ) (p : ℕ) → rowEnd s p ≡ p + 8 + 12 * u32At s (p + 4)
+pub row-end : (s : List ℕ) (p : ℕ) → rowEnd s p ≡ p + 8 + 12 * u32At s (p + 4)
 unfolding rowEndIn clockEndIn
 row-end s p = omega arith
 

@@ -56,7 +56,7 @@ keep-same la lb u = rw (eq-eqb u u refl)
 -- ---- along the actors
 
 module _ (vs ka : List ℕ) (ja : ℕ) (kb : List ℕ) (ib : ℕ) where
-  above-left : (k n : ℕ) (x : Clock) → Above vs kb ib k n x → keptAlong (linesFrom vs ka ja kb ib k n) x [] ≡ metAlong (actorsFrom vs k n) x
+  pub above-left : (k n : ℕ) (x : Clock) → Above vs kb ib k n x → keptAlong (linesFrom vs ka ja kb ib k n) x [] ≡ metAlong (actorsFrom vs k n) x
   unfolding linesFrom keptAlong walked Above
   above-left k zero x h = refl
   above-left k (suc n) x h = let a = getD vs k 0 in
@@ -89,7 +89,7 @@ module _ (vs ka : List ℕ) (ja : ℕ) (kb : List ℕ) (ib : ℕ) where
 -- ---- its bytes
 
 -- a run of dots inside some bytes is its writing
-dots-slice : (s : List ℕ) (p n : ℕ) → Bytes s → p + 12 * n ≤ length s → slice p (p + 12 * n) s ≡ encodeDots (dotsAt s p n)
+pub dots-slice : (s : List ℕ) (p n : ℕ) → Bytes s → p + 12 * n ≤ length s → slice p (p + 12 * n) s ≡ encodeDots (dotsAt s p n)
 dots-slice s p n b h =
     let e = encodeDots (dotsAt s p n) in
     let l : length e ≡ 12 * n = length-dots (dotsAt s p n) ∙ ap (λ (i : ℕ). 12 * i) (length-listAt dotAt (dotEndIn narrow) s p n) in
@@ -118,13 +118,20 @@ Clear l from any i = any ≡ 0 → (j : ℕ) → j < i → getD l (from + j) 0 �
 pub clear-on : (l : List ℕ) (from any i : ℕ) → Clear l from any i → Clear l from (bitOr any (getD l (from + i) 0)) (i + 1)
 clear-on l from any i z e j h = let o = or-none any (getD l (from + i) 0) e in by-lt j i (λ k. z (o .0) j k) (λ k. let q : j ≡ i = omega arith in rw q (o .1))
 
+-- after the numbers that are known to be passed there are zeros only
+pub above-more : (vs l : List ℕ) (from k h n : ℕ) (x : Clock) → ((i : ℕ) → k + h ≤ i → i < k + n → getD l (from + i) 0 ≡ 0) → h ≤ n → Above vs l from k h x → Above vs l from k n x
+unfolding Above
+above-more vs l from k h zero x z le a = tt
+above-more vs l from k zero (suc n) x z le a =
+    let u = said dots (getD vs k 0) x in
+    let o = z k (omega arith) (omega arith) in
+    (by-lt 0 u (λ q. inr (omega arith)) (λ q. inl (omega arith)), above-more vs l from (k + 1) 0 n (past dots (getD vs k 0) x) (λ i p q. z i (omega arith) (omega arith)) (omega arith) tt)
+above-more vs l from k (suc h) (suc n) x z le a =
+    (a .0, above-more vs l from (k + 1) h n (past dots (getD vs k 0) x) (λ i p q. z i (omega arith) (omega arith)) (omega arith) (a .1))
+
 pub clear-above : (vs l : List ℕ) (from k n : ℕ) (x : Clock) → ((i : ℕ) → i < 16 → getD l (from + i) 0 ≡ 0) → k + n ≤ 16 → Above vs l from k n x
 unfolding Above
-clear-above vs l from k zero x z h = tt
-clear-above vs l from k (suc n) x z h =
-    let u = said dots (getD vs k 0) x in
-    let o = z k (omega arith) in
-    (by-lt 0 u (λ q. inr (omega arith)) (λ q. inl (omega arith)), clear-above vs l from (k + 1) n (past dots (getD vs k 0) x) z (omega arith))
+clear-above vs l from k n x z h = above-more vs l from k 0 n x (λ i p q. z i (omega arith)) (omega arith) tt
 
 -- ---- the loop over a line
 

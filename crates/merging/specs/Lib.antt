@@ -1,6 +1,7 @@
 pub mod Ahead
 pub mod Keeping
 pub mod Rowing
+pub mod Sifting
 pub mod Waiting
 pub mod Draft
 pub mod Side

@@ -20,6 +20,7 @@ ghost use Rattle.merging.specs.Draft.{Counts, Held, DraftOf};
 use crate::ahead::index;
 use crate::entries::Rows;
 use crate::entries::merge_entries;
+use crate::sifting::sift_rows;
 use crate::waits::Waits;
 use crate::waits::copy_waits;
 use crate::waits::merge_waits;
@@ -116,6 +117,9 @@ pub(crate) fn keep_entries(
     requires { ⌜ Held (now a) x × Held (now b) y × (v .len ≤ 16) × Rise dots (dotsOf v) × (at < 65536) × Goes (map (λ d. actorOf d) (dotsOf v)) (imageOf (now a) .entries) × Goes (map (λ d. actorOf d) (dotsOf v)) (imageOf (now b) .entries) ⌝ }
     ensures { λ r. ⌜ WroteRows (now (out .entry)) at (keptEntries (map (λ d. actorOf d) (dotsOf v)) (imageOf (now (a .entry))) (imageOf (now (b .entry)))) (now (out .exit)) (r .n) (r .at) ⌝ }
 {
+    if y.entries == 0 {
+        return keep_one(a, x, b, y, v, out, at);
+    }
     let n = v.len;
     let actors = actors_of(v);
     let va = counts(a, 28, index(fields::u32_at(a, 24)), &actors, n);
@@ -125,8 +129,7 @@ pub(crate) fn keep_entries(
     let xw = x.starts;
     let yw = y.starts;
     let mut ka = [0u64; 1024];
-    let xk = counting(y.entries, x.waits);
-    kills::kill_lines(b, ys, y.entries, a, xw, xk, v, va, &mut ka);
+    kills::kill_lines(b, ys, y.entries, a, xw, x.waits, v, va, &mut ka);
     let mut kb = [0u64; 1024];
     let yk = counting(x.entries, y.waits);
     kills::kill_lines(a, xs, x.entries, b, yw, yk, v, vb, &mut kb);
@@ -144,6 +147,26 @@ pub(crate) fn keep_entries(
         out,
         at,
     )
+}
+
+// The same where the second side has no entries: what stays of the first's is above the second's clock and waiting removes.
+fn keep_one(a: &[u8], x: Image, b: &[u8], y: Image, v: VClock, out: &mut [u8], at: usize) -> Rows
+    requires { ⌜ (y .entries ≡ 0) × Held (now a) x × Held (now b) y × (v .len ≤ 16) × Rise dots (dotsOf v) × (at < 65536) × Goes (map (λ d. actorOf d) (dotsOf v)) (imageOf (now a) .entries) ⌝ }
+    ensures { λ r. ⌜ WroteRows (now (out .entry)) at (keptEntries (map (λ d. actorOf d) (dotsOf v)) (imageOf (now (a .entry))) (imageOf (now (b .entry)))) (now (out .exit)) (r .n) (r .at) ⌝ }
+{
+    let n = v.len;
+    let actors = actors_of(v);
+    let line = counts(b, 28, index(fields::u32_at(b, 24)), &actors, n);
+    let p = index(fields::u32_at(a, 8));
+    if y.waits == 0 {
+        return sift_rows(a, p, x.entries, &actors, n, &line, false, out, at);
+    }
+    let places = x.places;
+    let starts = y.starts;
+    let mut lines = [0u64; 1024];
+    let waits = counting(x.entries, y.waits);
+    kills::kill_lines(a, places, x.entries, b, starts, waits, v, line, &mut lines);
+    sift_rows(a, p, x.entries, &actors, n, &lines, true, out, at)
 }
 
 // The waiting removes of two sides, m of the image a and l of b, joined by equal clock, less those that v covers: written from `at` on. Where b

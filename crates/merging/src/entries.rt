@@ -22,11 +22,11 @@ use crate::ahead::meets;
 
 // Where a walk along two clocks in bytes stands: the next dot of each, how many are left, and how many dots were kept.
 pub(crate) struct Places {
-    x: usize,
-    xs: usize,
-    y: usize,
-    ys: usize,
-    n: usize,
+    pub(crate) x: usize,
+    pub(crate) xs: usize,
+    pub(crate) y: usize,
+    pub(crate) ys: usize,
+    pub(crate) n: usize,
 }
 
 // What stays of the counters u and w that two entries have for an actor, each beside the other side's line.
@@ -91,7 +91,7 @@ fn put_dot(out: &mut [u8], p: usize, actor: u32, counter: u64) -> usize
 }
 
 // One actor: writes what is kept of its dots, and steps past it.
-fn keep_dot(
+pub(crate) fn keep_dot(
     s: &[u8],
     t: &[u8],
     actor: u32,
@@ -147,8 +147,8 @@ fn judged(
 }
 
 // Whether a line has only zeros.
-fn clear(line: &[u64; 1024], from: usize) -> bool
-    requires { ⌜ from + 16 ≤ 1024 ⌝ }
+pub(crate) fn clear(line: &[u64], from: usize) -> bool
+    requires { ⌜ from + 16 ≤ length (now line) ⌝ }
     ensures { λ r. ⌜ (r ≡ true → (i : ℕ) → i < 16 → getD (now (line .entry)) (from + i) 0 ≡ 0) ⌝ }
 {
     let mut any: u64 = 0;
@@ -171,16 +171,16 @@ fn passes(line: u64, counter: u64) -> bool
 }
 
 // Whether each of the xs dots at x is above what the line has for its actor.
-fn above(
+pub(crate) fn above(
     s: &[u8],
     x: usize,
     xs: usize,
     actors: &[u32; 16],
     n: usize,
-    line: &[u64; 1024],
+    line: &[u64],
     from: usize,
 ) -> bool
-    requires { ⌜ (x + 12 * xs ≤ length (now s)) × (n ≤ 16) × (from + n ≤ 1024) ⌝ }
+    requires { ⌜ (x + 12 * xs ≤ length (now s)) × (n ≤ 16) × (from + n ≤ length (now line)) ⌝ }
     ensures { λ r. ⌜ (r ≡ true → Above (now (actors .entry)) (now (line .entry)) from 0 n (dotsAt (now (s .entry)) x xs)) ⌝ }
 {
     let mut at = x;
@@ -308,7 +308,7 @@ fn dots_of(s: &[u8], p: usize, met: usize) -> usize
 }
 
 // Writes the member and the count of a row, where its dots are any, and returns how many bytes the row takes.
-fn put_head(out: &mut [u8], at: usize, member: u32, dots: usize) -> usize
+pub(crate) fn put_head(out: &mut [u8], at: usize, member: u32, dots: usize) -> usize
     requires { ⌜ (at < 1099511627776) × (dots ≤ 16) ⌝ }
     ensures { λ r. ⌜ (r ≡ pick (eqb dots 0) 0 (8 + 12 * dots)) × (now (out .exit) ≡ sets (now (out .entry)) at (pick (eqb dots 0) [] (le32 member ++ le32 dots))) ⌝ }
 {
@@ -321,7 +321,7 @@ fn put_head(out: &mut [u8], at: usize, member: u32, dots: usize) -> usize
 }
 
 // 1 for a row of any dots, 0 for one of none.
-fn some(dots: usize) -> usize
+pub(crate) fn some(dots: usize) -> usize
     ensures { λ r. ⌜ r ≡ pick (eqb dots 0) 0 1 ⌝ }
 {
     if dots == 0 { 0 } else { 1 }

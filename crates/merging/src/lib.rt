@@ -11,6 +11,7 @@ mod draft;
 mod entries;
 mod reset;
 mod side;
+mod sifting;
 mod waits;
 
 pub use applying::apply;

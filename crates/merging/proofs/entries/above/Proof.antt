@@ -17,7 +17,7 @@ abbrev μ-loop : tie.MeasureT-loop
 μ-loop s x xs actors n line from at₀ left₀ i₀ at left i = n - i
 
 loop-holds : tie.Need-loop-holds Inv-loop μ-loop
-loop-holds c = (omega arith, c .before .pre .0, over-begin _ _ _ _ _ _ _)
+loop-holds c = (omega arith, c .before .before .pre .0, over-begin _ _ _ _ _ _ _)
 
 counter-in-requires : tie.Need-counter-in-requires Inv-loop μ-loop
 counter-in-requires c κs = λ h. let z = c .before .before .before .before .loop .inv .1 in let m = c .before .met-in .ensures in omega arith

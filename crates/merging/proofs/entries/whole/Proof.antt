@@ -9,10 +9,10 @@ use Rattle.merging.proofs.entries.whole.Statement.{statement}
 use Rattle.merging.proofs.entries.whole.Tie as tie
 
 returns : tie.Need-returns
-returns c = λ e. inl (none-there _ _ _ (c .before .before .if1 .taken), clear-above _ _ _ _ _ _ (c .before .clear .ensures (c .if2 .taken)) (let p = c .before .before .before .before .before .pre .2 in omega arith))
+returns c = λ e. inl (none-there _ _ _ (c .before .before .before .if1 .taken), clear-above _ _ _ _ _ _ (c .before .clear .ensures (c .if2 .taken)) (let p = c .before .before .before .before .before .before .pre .2 in omega arith))
 
 returns-2 : tie.Need-returns-2
-returns-2 c = λ e. inl (none-there _ _ _ (c .before .before .before .if1 .taken), c .above .ensures e)
+returns-2 c = λ e. inl (none-there _ _ _ (c .before .before .before .before .before .if1 .taken), c .above .ensures e)
 
 same-requires : tie.Need-same-requires
 same-requires c κs = let p = c .before .before .before .before .pre in let e = c .if3 .taken in (omega arith, omega arith)
