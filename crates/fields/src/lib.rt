@@ -10,6 +10,7 @@ ghost use Rattle.fields.specs.Read.{clockRead, entryOf, Put};
 use clocks::VClock;
 use dots::Actor;
 use dots::Dot;
+pub use numbers::index;
 pub use numbers::put_u32;
 pub use numbers::put_u64;
 pub use numbers::u16_at;
@@ -23,12 +24,6 @@ fn few(n: usize) -> usize
     if n < 16 { n } else { 16 }
 }
 
-fn wide(x: u32) -> usize
-    ensures { λ r. ⌜ (r ≡ x) × (r < 4294967296) ⌝ }
-{
-    x as usize
-}
-
 // The clock at a place: the first 16 dots where its count is more, and no dots past the end.
 pub fn clock_at(s: &[u8], at: usize) -> VClock
     ensures { λ r. ⌜ r ≡ vclock (clockRead (now (s .entry)) at) ⌝ }
@@ -36,7 +31,7 @@ pub fn clock_at(s: &[u8], at: usize) -> VClock
     if s.len() <= at {
         return VClock::new();
     }
-    let n = few(wide(u32_at(s, at)));
+    let n = few(index(u32_at(s, at)));
     let mut dots = [Dot {
         actor: Actor(0),
         counter: 0,

@@ -11,6 +11,7 @@ ghost use Rattle.image.specs.Image.{checkImage, partsImage, noImage, che
 ghost use Rattle.image.specs.Fits.{metOf, fits, lineFor, fitAll, EachInside};
 use clocks::VClock;
 use fields::clock_at;
+use fields::index;
 use fields::u16_at;
 use fields::u32_at;
 use fields::u64_at;
@@ -29,12 +30,6 @@ pub struct Image {
 pub struct ClockAnswer {
     pub no: u32,
     pub clock: VClock,
-}
-
-fn wide(x: u32) -> usize
-    ensures { λ r. ⌜ (r ≡ x) × (r < 4294967296) ⌝ }
-{
-    x as usize
 }
 
 fn no_image() -> Image
@@ -64,7 +59,7 @@ fn contents_good(s: &[u8]) -> bool
     if u16_at(s, 2) != 0 {
         return false;
     }
-    if wide(u32_at(s, 4)) != s.len() {
+    if index(u32_at(s, 4)) != s.len() {
         return false;
     }
     if 64 < u32_at(s, 12) {
@@ -82,16 +77,16 @@ fn parts(s: &[u8]) -> Image
         if start == 0 {
             return no_image();
         }
-        if wide(u32_at(s, 8)) != start {
+        if index(u32_at(s, 8)) != start {
             return no_image();
         }
-        let entries = wide(u32_at(s, 12));
+        let entries = index(u32_at(s, 12));
         let t = scan::check_rows(s, start, entries);
         if t.good {
-            if wide(u32_at(s, 16)) != t.next {
+            if index(u32_at(s, 16)) != t.next {
                 return no_image();
             }
-            let waits = wide(u32_at(s, 20));
+            let waits = index(u32_at(s, 20));
             let w = scan::check_waits(s, t.next, waits);
             if w.good {
                 if w.next != s.len() {
@@ -191,11 +186,11 @@ fn entries_fit(s: &[u8], places: [u32; 64], n: usize, lines: &[u64], own: bool) 
     requires { ⌜ (n ≤ 64) × Stands (now s) 24 × (pick own 1024 16 ≤ length (now lines)) × EachInside (now s) places n ⌝ }
     ensures { λ r. ⌜ r ≡ fitAll (now (lines .entry)) (now (s .entry)) (clockAt (now (s .entry)) 24) own 0 (take n places) ⌝ }
 {
-    let k = wide(u32_at(s, 24));
+    let k = index(u32_at(s, 24));
     let mut i: usize = 0;
     while i < n {
-        let at = wide(places[i]) + 4;
-        let count = wide(u32_at(s, at));
+        let at = index(places[i]) + 4;
+        let count = index(u32_at(s, at));
         if row_fits(s, at + 4, count, k, lines, line_for(own, i)) {
             i += 1;
         } else {

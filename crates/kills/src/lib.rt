@@ -15,14 +15,9 @@ ghost use Rattle.fields.specs.Read.{clockRead};
 ghost use Rattle.kills.specs.Lines.{along, raiseFrom, raised, topLine, spread, killTable, membersOf, waitRead, waitsOf};
 ghost use Rattle.kills.specs.Posts.{Padded, numbersBy, linesBy, UpTo, Compared, Founded};
 use clocks::VClock;
+use fields::index;
 use fields::u32_at;
 use fields::u64_at;
-
-fn wide(x: u32) -> usize
-    ensures { λ r. ⌜ (r ≡ x) × (r < 4294967296) ⌝ }
-{
-    x as usize
-}
 
 // The smaller of two.
 fn at_most(n: usize, most: usize) -> usize
@@ -66,9 +61,9 @@ fn raise_at(t: &[u8], at: u32, actors: &[u32; 16], n: usize, line: &mut [u64; 16
     requires { ⌜ (n ≤ 16) × (length (now actors) ≡ 16) ⌝ }
     ensures { λ _. ⌜ now (line .exit) ≡ raiseFrom (now (line .entry)) 0 (along dots (take n (now (actors .entry))) (clockRead (now (t .entry)) at)) ⌝ }
 {
-    let q = wide(at);
+    let q = index(at);
     let from = q + 4;
-    let count = at_most(wide(u32_at(t, q)), 16);
+    let count = at_most(index(u32_at(t, q)), 16);
     if t.len() < from + 12 * count {
         let copy = padded(t, from);
         raise_in(&copy, 0, count, actors, n, line);
@@ -213,7 +208,7 @@ fn raise_named(
     ensures { λ _. ⌜ now (out .exit) ≡ raised (now (out .entry)) 0 (along memberRows (take n (now (ms .entry))) (membersAt (now (t .entry)) (at + 4) (min (u32At (now (t .entry)) at) 64))) (now (line .entry)) ⌝ }
 {
     let mut p = at + 4;
-    let mut left = at_most(wide(u32_at(t, at)), 64);
+    let mut left = at_most(index(u32_at(t, at)), 64);
     let mut i: usize = 0;
     while 0 < left {
         i = raise_same(ms, i, n, u32_at(t, p), line, out);
@@ -236,8 +231,8 @@ fn raise_by(
     ensures { λ _. ⌜ now (out .exit) ≡ raised (now (out .entry)) 0 (along memberRows (take n (now (ms .entry))) (waitRead (now (t .entry)) at .members)) (now (line .entry)) ⌝ }
 {
     if above(line, floor) {
-        let q = wide(at);
-        let members = q + 4 + 12 * wide(u32_at(t, q));
+        let q = index(at);
+        let members = q + 4 + 12 * index(u32_at(t, q));
         raise_named(ms, n, t, members, line, out);
     }
 }
@@ -274,7 +269,7 @@ fn members_at(s: &[u8], places: [u32; 64], n: usize) -> [u32; 64]
     let mut ms = [0u32; 64];
     let mut i: usize = 0;
     while i < n {
-        ms[i] = u32_at(s, wide(places[i]));
+        ms[i] = u32_at(s, index(places[i]));
         i += 1;
     }
     ms

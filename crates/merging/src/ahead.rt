@@ -10,13 +10,6 @@ pub(crate) fn wide(x: u32) -> u64
     x as u64
 }
 
-// A 32-bit number as a place or a count.
-pub(crate) fn index(x: u32) -> usize
-    ensures { λ r. ⌜ (r ≡ x) × (r < 4294967296) ⌝ }
-{
-    x as usize
-}
-
 // The key of the row at a place; 2^32, which is past every key, where nothing is left.
 pub(crate) fn key_at(s: &[u8], at: usize, left: usize) -> u64
     ensures { λ r. ⌜ KeyAhead (now (s .entry)) at left r ⌝ }

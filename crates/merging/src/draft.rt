@@ -17,7 +17,6 @@ ghost use Rattle.changing.specs.KeptWaits.{keptWaits};
 ghost use Rattle.merging.specs.Rowing.{Goes, WroteRows};
 ghost use Rattle.merging.specs.Waiting.{WaitsReady, WroteWaits};
 ghost use Rattle.merging.specs.Draft.{Counts, Held, DraftOf};
-use crate::ahead::index;
 use crate::entries::Rows;
 use crate::entries::merge_entries;
 use crate::sifting::sift_rows;
@@ -25,6 +24,7 @@ use crate::waits::Waits;
 use crate::waits::copy_waits;
 use crate::waits::merge_waits;
 use clocks::VClock;
+use fields::index;
 use image::Image;
 use results::Draft;
 

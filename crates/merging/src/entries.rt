@@ -15,10 +15,10 @@ ghost use Rattle.changing.specs.Kept.{keepOf, keptEntries, metAlong};
 ghost use Rattle.merging.specs.Ahead.{keyAhead, Met};
 ghost use Rattle.merging.specs.Keeping.{dotList, KeptDot, KeptDots, linesFrom, keptAlong, Above, Stays};
 ghost use Rattle.merging.specs.Rowing.{RowsAhead, Ready, MergedRow, WroteRows};
-use crate::ahead::index;
 use crate::ahead::key_at;
 use crate::ahead::lower;
 use crate::ahead::meets;
+use fields::index;
 
 // Where a walk along two clocks in bytes stands: the next dot of each, how many are left, and how many dots were kept.
 pub(crate) struct Places {

@@ -10,7 +10,6 @@ ghost use Rattle.changing.specs.Kept.{metAlong};
 ghost use Rattle.merging.specs.Keeping.{KeptDots};
 ghost use Rattle.merging.specs.Rowing.{RowsAhead, WroteRows};
 ghost use Rattle.merging.specs.Sifting.{lineFor, Lined, Reach, sifted, siftedRows, SiftReady, Passed, Sifted};
-use crate::ahead::index;
 use crate::entries::Places;
 use crate::entries::Rows;
 use crate::entries::above;
@@ -19,6 +18,7 @@ use crate::entries::keep_dot;
 use crate::entries::put_head;
 use crate::entries::some;
 use crate::entries::u32_in;
+use fields::index;
 
 // How many of the first n numbers of a line it takes to reach the last that isn't 0.
 fn height(line: &[u64], n: usize) -> usize

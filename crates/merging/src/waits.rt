@@ -15,7 +15,6 @@ ghost use Rattle.layout.specs.Rows.{membersAt, waitsAt};
 ghost use Rattle.layout.specs.Image.{imageOf, goodImage};
 ghost use Rattle.changing.specs.KeptWaits.{bothSets, keptWaits};
 ghost use Rattle.merging.specs.Waiting.{orderOf, dotsFrom, Named, MembersReady, WroteMembers, PartAt, Whole, Next, PutWait, WaitsAhead, MergedWait, WaitsReady, WroteWaits};
-use crate::ahead::index;
 use crate::ahead::key_at;
 use crate::ahead::lower;
 use crate::ahead::meets;
@@ -24,6 +23,7 @@ use crate::entries::counter_in;
 use crate::entries::met_in;
 use crate::entries::u32_in;
 use crate::entries::u64_in;
+use fields::index;
 
 // 0 where the first number is smaller, 1 where both are equal, 2 where the second is smaller.
 fn by_number(x: u64, y: u64) -> usize

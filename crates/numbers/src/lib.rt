@@ -13,6 +13,13 @@ fn wide(x: u8) -> u32
     x as u32
 }
 
+// A 32-bit number as a place or a count. Its callers learn that it is below 2^32.
+pub fn index(x: u32) -> usize
+    ensures { λ r. ⌜ (r ≡ x) × (r < 4294967296) ⌝ }
+{
+    x as usize
+}
+
 // Whether n bytes from a place on lie inside. The first test is of the length alone, so that a loop that reads asks it once.
 fn room(s: &[u8], at: usize, n: usize) -> bool
     ensures { λ r. ⌜ r ≡ leb (at + n) (length (now (s .entry))) ⌝ }

@@ -14,6 +14,7 @@ use clocks::VClock;
 use contexts::ReadCtx;
 use dots::Member;
 use fields::clock_at;
+use fields::index;
 use fields::put_contents;
 use fields::put_u32;
 use fields::u32_at;
@@ -43,7 +44,7 @@ pub fn contains(img: &[u8], member: Member) -> ReadAnswer
         let places = x.places;
         let i = seat(img, &places, x.entries, member.0);
         if i < x.entries {
-            let rm_clock = clock_at(img, wide(places[i]) + 4);
+            let rm_clock = clock_at(img, index(places[i]) + 4);
             let ctx = ReadCtx {
                 add_clock,
                 rm_clock,
@@ -145,12 +146,6 @@ fn no_ctx() -> ReadCtx
     }
 }
 
-fn wide(x: u32) -> usize
-    ensures { λ r. ⌜ (r ≡ x) × (r < 4294967296) ⌝ }
-{
-    x as usize
-}
-
 // Which of the n entries at places is the member's; n where none is.
 fn seat(s: &[u8], places: &[u32; 64], n: usize, member: u32) -> usize
     requires { ⌜ (n ≤ 64) × (length (now places) ≡ 64) ⌝ }
@@ -158,7 +153,7 @@ fn seat(s: &[u8], places: &[u32; 64], n: usize, member: u32) -> usize
 {
     let mut i: usize = 0;
     while i < n {
-        if u32_at(s, wide(places[i])) == member {
+        if u32_at(s, index(places[i])) == member {
             return i;
         }
         i += 1;
@@ -173,7 +168,7 @@ fn put_members(s: &[u8], places: &[u32; 64], n: usize, out: &mut [u8])
 {
     let mut i: usize = 0;
     while i < n {
-        put_u32(out, 4 * i, u32_at(s, wide(places[i])));
+        put_u32(out, 4 * i, u32_at(s, index(places[i])));
         i += 1;
     }
 }

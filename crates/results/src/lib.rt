@@ -5,6 +5,7 @@ ghost use lib.Seq.{sets, slice};
 ghost use Rattle.results.specs.Call.{answered};
 ghost use Rattle.results.specs.Finish.{Finished};
 use clocks::VClock;
+use fields::index;
 
 // The refusal number, or 0 with the length of what was written.
 pub struct Written {
@@ -27,12 +28,6 @@ pub fn refused(no: u32) -> Written
     ensures { λ r. ⌜ r ≡ answered no 0 ⌝ }
 {
     Written { no, len: 0 }
-}
-
-fn index(x: u32) -> usize
-    ensures { λ r. ⌜ (r ≡ x) × (r < 4294967296) ⌝ }
-{
-    x as usize
 }
 
 // The smaller of two numbers.

@@ -10,6 +10,7 @@ ghost use Rattle.rows.specs.Rows.{rowRead, waitRead, namedRead, counted,
 use clocks::VClock;
 use dots::Member;
 use fields::clock_at;
+use fields::index;
 use fields::put_clock;
 use fields::put_u32;
 use fields::u32_at;
@@ -24,12 +25,6 @@ pub struct Row {
 pub struct WaitRow {
     pub clock: VClock,
     pub count: u32,
-}
-
-fn wide(x: u32) -> usize
-    ensures { λ r. ⌜ (r ≡ x) × (r < 4294967296) ⌝ }
-{
-    x as usize
 }
 
 fn at_most_32(n: usize) -> usize
@@ -59,7 +54,7 @@ fn clock_end(s: &[u8], at: usize) -> usize
     requires { ⌜ at < length (now s) ⌝ }
     ensures { λ r. ⌜ (r ≡ clockEnd (now (s .entry)) at) × (r < length (now (s .entry)) + 51539607556) ⌝ }
 {
-    at + 4 + 12 * wide(u32_at(s, at))
+    at + 4 + 12 * index(u32_at(s, at))
 }
 
 // The waiting remove at a place.
@@ -86,7 +81,7 @@ pub fn names(s: &[u8], at: usize, member: Member) -> bool
         return false;
     }
     let q = clock_end(s, at);
-    let n = at_most_32(wide(u32_at(s, q)));
+    let n = at_most_32(index(u32_at(s, q)));
     let mut p = q + 4;
     let mut i: usize = 0;
     while i < n {

@@ -12,6 +12,7 @@ ghost use Rattle.layout.specs.Clock.{dotAt, dotsAt, clockAt};
 ghost use Rattle.layout.specs.Rows.{membersAt};
 ghost use Rattle.layout.specs.Good.{risingMembers};
 ghost use Rattle.scan.specs.Scan.{DotsIn, clockEnds, membersEnd, rowEnds, waitEnds, rowsTable, noTable, waitsTable, noWaits};
+use fields::index;
 use fields::u32_at;
 use fields::u64_at;
 
@@ -27,12 +28,6 @@ pub struct Waits {
     pub good: bool,
     pub next: usize,
     pub places: [u32; 16],
-}
-
-fn wide(x: u32) -> usize
-    ensures { λ r. ⌜ (r ≡ x) × (r < 4294967296) ⌝ }
-{
-    x as usize
 }
 
 // The 32-bit number at a place that lies inside: of a part of known length, nothing is tested when the code runs.
@@ -60,7 +55,7 @@ fn dots_rise(s: &[u8], from: usize, count: usize) -> bool
     let mut left = count;
     let mut low: usize = 0;
     while 0 < left {
-        let actor = wide(u32_in(s, p));
+        let actor = index(u32_in(s, p));
         if actor < low {
             return false;
         }
@@ -83,7 +78,7 @@ fn members_rise(s: &[u8], from: usize, count: usize) -> bool
     let mut left = count;
     let mut low: usize = 0;
     while 0 < left {
-        let member = wide(u32_in(s, p));
+        let member = index(u32_in(s, p));
         if member < low {
             return false;
         }
@@ -105,7 +100,7 @@ pub fn clock_ends(s: &[u8], at: usize) -> usize
     if left < 4 {
         return 0;
     }
-    let n = wide(u32_at(s, at));
+    let n = index(u32_at(s, at));
     if 16 < n {
         return 0;
     }
@@ -130,7 +125,7 @@ pub fn members_end(s: &[u8], at: usize) -> usize
     if left < 4 {
         return 0;
     }
-    let n = wide(u32_at(s, at));
+    let n = index(u32_at(s, at));
     if 32 < n {
         return 0;
     }
@@ -177,8 +172,8 @@ fn clock_less(s: &[u8], p: usize, q: usize) -> bool
     requires { ⌜ (p < 70368744177664) × (q < 70368744177664) × DotsIn (now s) p × DotsIn (now s) q ⌝ }
     ensures { λ r. ⌜ r ≡ isLt (cmpClock (clockAt (now (s .entry)) p) (clockAt (now (s .entry)) q)) ⌝ }
 {
-    let n = wide(u32_at(s, p));
-    let m = wide(u32_at(s, q));
+    let n = index(u32_at(s, p));
+    let m = index(u32_at(s, q));
     let mut i: usize = 0;
     while i < n {
         if m <= i {
@@ -198,10 +193,10 @@ fn row_ends(s: &[u8], p: usize, low: usize) -> usize
     requires { ⌜ p < 70368744177664 ⌝ }
     ensures { λ r. ⌜ r ≡ rowEnds (now (s .entry)) p low ⌝ }
 {
-    if wide(u32_at(s, p)) < low {
+    if index(u32_at(s, p)) < low {
         return 0;
     }
-    let dots = wide(u32_at(s, p + 4));
+    let dots = index(u32_at(s, p + 4));
     if dots == 0 {
         return 0;
     }
@@ -274,7 +269,7 @@ pub fn check_rows(s: &[u8], at: usize, count: usize) -> Table
             return no_table();
         }
         places[i] = p as u32;
-        low = wide(u32_at(s, p)) + 1;
+        low = index(u32_at(s, p)) + 1;
         p = next;
         i += 1;
     }

@@ -16,6 +16,7 @@ ghost use Rattle.validating.specs.Search.{reportable, spotted, sightsOf,
 use dots::Actor;
 use dots::Dot;
 use dots::Member;
+use fields::index;
 use fields::u32_at;
 use fields::u64_at;
 use image::check;
@@ -55,12 +56,6 @@ pub fn validate_merge(a: &[u8], b: &[u8]) -> Validation
     }
 }
 
-fn wide(x: u32) -> usize
-    ensures { λ r. ⌜ (r ≡ x) × (r < 4294967296) ⌝ }
-{
-    x as usize
-}
-
 // The 32-bit number at a place that lies inside: of a part of known length, nothing is tested when the code runs.
 fn u32_in(s: &[u8], at: usize) -> u32
     requires { ⌜ at + 4 ≤ length (now s) ⌝ }
@@ -91,7 +86,7 @@ fn dots_of(s: &[u8], p: usize) -> Ahead
 {
     Ahead {
         place: p + 8,
-        left: wide(u32_in(s, p + 4)),
+        left: index(u32_in(s, p + 4)),
         count: 0,
     }
 }
@@ -161,7 +156,7 @@ fn put_lines(s: &[u8], places: &[u32; 64], n: usize, v: &[u8], m: usize, out: &m
 {
     let mut j: usize = 0;
     while j < n {
-        put_keys(s, wide(places[j]), v, m, 0, out, 16 * j);
+        put_keys(s, index(places[j]), v, m, 0, out, 16 * j);
         j += 1;
     }
 }
@@ -231,21 +226,21 @@ fn first_spent(
     requires { ⌜ (length (now ours) ≡ 64) × (length (now theirs) ≡ 64) × Listed (now a) (now ours) na × Listed (now b) (now theirs) nb ⌝ }
     ensures { λ r. ⌜ r ≡ verdict (first spotted (sightsOf (map (rowAt (now (a .entry))) (take na (now (ours .entry)))) (map (rowAt (now (b .entry))) (take nb (now (theirs .entry)))))) ⌝ }
 {
-    let m = wide(u32_at(a, 24));
+    let m = index(u32_at(a, 24));
     let mut lines = [0u16; 1024];
     put_lines(b, theirs, nb, a, m, &mut lines);
     let mut found = Validation::Valid;
     'search: for i in 0..na {
-        let p = wide(ours[i]);
+        let p = index(ours[i]);
         let our = u32_at(a, p);
-        let n = wide(u32_at(a, p + 4));
+        let n = index(u32_at(a, p + 4));
         let mut keys = [65535u16; 16];
         put_keys(a, p, a, m, 65535, &mut keys, 0);
         'theirs: for j in 0..nb {
             if apart(&keys, &lines, j) {
                 continue 'theirs;
             }
-            let q = wide(theirs[j]);
+            let q = index(theirs[j]);
             let their = u32_at(b, q);
             let mut ahead = dots_of(b, q);
             'actors: for k in 0..n {

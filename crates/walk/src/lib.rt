@@ -3,17 +3,12 @@ ghost use mathlib.Core.Path.{_≡_};
 ghost use Prim.Native.Nat.{_<_};
 ghost use Rattle.walk.specs.Walks.{endAt, startAt, handAt, partAt, onwardAt};
 use dots::Member;
+use fields::index;
 use fields::u32_at;
 
 pub enum Hand {
     One(Member),
     Nothing,
-}
-
-fn wide(x: u32) -> usize
-    ensures { λ r. ⌜ (r ≡ x) × (r < 4294967296) ⌝ }
-{
-    x as usize
 }
 
 // ---- on plain slices and numbers
@@ -22,10 +17,10 @@ fn wide(x: u32) -> usize
 pub fn end_at(s: &[u8], at: usize) -> usize
     ensures { λ r. ⌜ r ≡ endAt (now (s .entry)) at ⌝ }
 {
-    if wide(u32_at(s, 16)) <= at {
+    if index(u32_at(s, 16)) <= at {
         return 0;
     }
-    let end = at + 4 + (4 + 12 * wide(u32_at(s, at + 4)));
+    let end = at + 4 + (4 + 12 * index(u32_at(s, at + 4)));
     if s.len() < end {
         return 0;
     }
@@ -38,7 +33,7 @@ pub fn start_at(s: &[u8]) -> usize
 {
     let x = image::check(s);
     if x.good {
-        return wide(u32_at(s, 8));
+        return index(u32_at(s, 8));
     }
     s.len()
 }

@@ -27,10 +27,10 @@ row-fits-requires c κs =
     let a = c .before .before .before .before .before .before .before .before .before .before .args in
     let l = c .before .before .before .before .before .loop in
     let s = a .s .now in
-    let k : c .before .before .before .before .before .before .wide .result ≡ u32At s 24 = c .before .before .before .before .before .before .wide .ensures .0 ∙ c .before .before .before .before .before .before .before .u32-at .ensures in
-    let count : c .before .wide3 .result ≡ u32At s (c .before .before .before .wide2 .result + 4) = c .before .wide3 .ensures .0 ∙ c .before .before .u32-at2 .ensures in
+    let k : c .before .before .before .before .before .before .index .result ≡ u32At s 24 = c .before .before .before .before .before .before .index .ensures .0 ∙ c .before .before .before .before .before .before .before .u32-at .ensures in
+    let count : c .before .index3 .result ≡ u32At s (c .before .before .before .index2 .result + 4) = c .before .index3 .ensures .0 ∙ c .before .before .u32-at2 .ensures in
     let w = c .before .before .before .before .before .before .before .before .before .before .pre .1 in
-    let room : rowEnd s (c .before .before .before .wide2 .result) ≤ length s = rw (c .before .before .before .wide2 .ensures .0) (c .before .before .before .before .before .before .before .before .before .before .pre .3 .each (l .i) (omega arith)) in
+    let room : rowEnd s (c .before .before .before .index2 .result) ≤ length s = rw (c .before .before .before .index2 .ensures .0) (c .before .before .before .before .before .before .before .before .before .before .pre .3 .each (l .i) (omega arith)) in
     let line = line-room (a .own) (l .i) _ _ (omega arith) (c .line-for .ensures) (c .before .before .before .before .before .before .before .before .before .before .pre .2) in
     (omega arith, omega (arith, w .room), omega (arith, w .count))
 
@@ -40,11 +40,11 @@ loop-again c =
     let a = c .before .before .before .before .before .before .before .before .before .before .before .before .args in
     let l = c .before .before .before .before .before .before .before .loop in
     let s = a .s .now in
-    let k : c .before .before .before .before .before .before .before .before .wide .result ≡ u32At s 24 = c .before .before .before .before .before .before .before .before .wide .ensures .0 ∙ c .before .before .before .before .before .before .before .before .before .u32-at .ensures in
-    let count : c .before .before .before .wide3 .result ≡ u32At s (c .before .before .before .before .before .wide2 .result + 4) = c .before .before .before .wide3 .ensures .0 ∙ c .before .before .before .before .u32-at2 .ensures in
+    let k : c .before .before .before .before .before .before .before .before .index .result ≡ u32At s 24 = c .before .before .before .before .before .before .before .before .index .ensures .0 ∙ c .before .before .before .before .before .before .before .before .before .u32-at .ensures in
+    let count : c .before .before .before .index3 .result ≡ u32At s (c .before .before .before .before .before .index2 .result + 4) = c .before .before .before .index3 .ensures .0 ∙ c .before .before .before .before .u32-at2 .ensures in
     let long : length (a .t2) ≡ 64 = let g = c .before .before .before .before .before .before .before .before .before .before .before .before .good in search needs in
     let f = rw (k, count) at (c .before .row-fits .ensures) in
-    (search needs, all-turn (a .lines .now) s (clockAt s 24) (a .t2) (a .n) (l .i) _ (omega arith) (omega arith) (c .before .before .before .before .before .wide2 .ensures .0) _ (a .own) _ (c .before .before .line-for .ensures) f (c .if1 .taken) ∙ l .inv .1)
+    (search needs, all-turn (a .lines .now) s (clockAt s 24) (a .t2) (a .n) (l .i) _ (omega arith) (omega arith) (c .before .before .before .before .before .index2 .ensures .0) _ (a .own) _ (c .before .before .line-for .ensures) f (c .if1 .taken) ∙ l .inv .1)
 
 returns : tie.Need-returns Inv-loop μ-loop
 unfolding clockIn
@@ -52,11 +52,11 @@ returns c =
     let a = c .before .before .before .before .before .before .before .before .before .before .before .before .args in
     let l = c .before .before .before .before .before .before .before .loop in
     let s = a .s .now in
-    let k : c .before .before .before .before .before .before .before .before .wide .result ≡ u32At s 24 = c .before .before .before .before .before .before .before .before .wide .ensures .0 ∙ c .before .before .before .before .before .before .before .before .before .u32-at .ensures in
-    let count : c .before .before .before .wide3 .result ≡ u32At s (c .before .before .before .before .before .wide2 .result + 4) = c .before .before .before .wide3 .ensures .0 ∙ c .before .before .before .before .u32-at2 .ensures in
+    let k : c .before .before .before .before .before .before .before .before .index .result ≡ u32At s 24 = c .before .before .before .before .before .before .before .before .index .ensures .0 ∙ c .before .before .before .before .before .before .before .before .before .u32-at .ensures in
+    let count : c .before .before .before .index3 .result ≡ u32At s (c .before .before .before .before .before .index2 .result + 4) = c .before .before .before .index3 .ensures .0 ∙ c .before .before .before .before .u32-at2 .ensures in
     let long : length (a .t2) ≡ 64 = let g = c .before .before .before .before .before .before .before .before .before .before .before .before .good in search needs in
     let f = rw (k, count) at (c .before .row-fits .ensures) in
-    all-stop (a .lines .now) s (clockAt s 24) (a .t2) (a .n) (l .i) _ (omega arith) (omega arith) (c .before .before .before .before .before .wide2 .ensures .0) _ (a .own) _ (c .before .before .line-for .ensures) f (c .if1 .left) ∙ l .inv .1
+    all-stop (a .lines .now) s (clockAt s 24) (a .t2) (a .n) (l .i) _ (omega arith) (omega arith) (c .before .before .before .before .before .index2 .ensures .0) _ (a .own) _ (c .before .before .line-for .ensures) f (c .if1 .left) ∙ l .inv .1
 
 returns-2 : tie.Need-returns-2 Inv-loop μ-loop
 returns-2 c =

@@ -16,27 +16,27 @@ returns : tie.Need-returns
 returns c = c .no-image .ensures ∙ no-clock (c .before .before .before .before .before .before .args .s .now) _ (c .before .before .clock-ends .ensures) (c .before .if2 .taken)
 
 returns-2 : tie.Need-returns-2
-returns-2 c = c .no-image2 .ensures ∙ no-start (c .before .before .before .before .before .before .before .before .before .args .s .now) _ (c .before .before .before .before .before .clock-ends .ensures) (c .before .before .before .before .if2 .left) (λ e. c .before .if3 .taken (c .before .before .wide .ensures .0 ∙ c .before .before .before .u32-at .ensures ∙ e))
+returns-2 c = c .no-image2 .ensures ∙ no-start (c .before .before .before .before .before .before .before .before .before .args .s .now) _ (c .before .before .before .before .before .clock-ends .ensures) (c .before .before .before .before .if2 .left) (λ e. c .before .if3 .taken (c .before .before .index .ensures .0 ∙ c .before .before .before .u32-at .ensures ∙ e))
 
 returns-3 : tie.Need-returns-3
 returns-3 c =
     let s = c .before .before .before .before .before .before .before .before .before .before .before .before .before .before .before .before .before .args .s .now in
-    let e8 : u32At s 8 ≡ c .before .before .before .before .before .before .before .before .before .before .before .before .before .clock-ends .result = sym (c .before .before .before .before .before .before .before .before .before .before .wide .ensures .0 ∙ c .before .before .before .before .before .before .before .before .before .before .before .u32-at .ensures) ∙ c .before .before .before .before .before .before .before .before .before .if3 .left in
-    let e12 : c .before .before .before .before .before .before .before .wide2 .result ≡ u32At s 12 = c .before .before .before .before .before .before .before .wide2 .ensures .0 ∙ c .before .before .before .before .before .before .before .before .u32-at2 .ensures in
+    let e8 : u32At s 8 ≡ c .before .before .before .before .before .before .before .before .before .before .before .before .before .clock-ends .result = sym (c .before .before .before .before .before .before .before .before .before .before .index .ensures .0 ∙ c .before .before .before .before .before .before .before .before .before .before .before .u32-at .ensures) ∙ c .before .before .before .before .before .before .before .before .before .if3 .left in
+    let e12 : c .before .before .before .before .before .before .before .index2 .result ≡ u32At s 12 = c .before .before .before .before .before .before .before .index2 .ensures .0 ∙ c .before .before .before .before .before .before .before .before .u32-at2 .ensures in
     let t = c .before .before .before .before .before .before .check-rows .result in
     let et : t ≡ rowsTable s (u32At s 8) (u32At s 12) = c .before .before .before .before .before .before .check-rows .ensures ∙ ap₂ (rowsTable s) (sym e8) e12 in
     let told = rows-told s (u32At s 8) (u32At s 12) t et (c .before .before .before .before .before .if4 .taken) in
-    c .no-image3 .ensures ∙ no-waits-start s (λ q. c .before .if5 .taken (c .before .before .before .wide3 .ensures .0 ∙ c .before .before .before .before .u32-at3 .ensures ∙ q ∙ sym (ap (λ (x : Table). x .next) (told .1))))
+    c .no-image3 .ensures ∙ no-waits-start s (λ q. c .before .if5 .taken (c .before .before .before .index3 .ensures .0 ∙ c .before .before .before .before .u32-at3 .ensures ∙ q ∙ sym (ap (λ (x : Table). x .next) (told .1))))
 
 returns-4 : tie.Need-returns-4
 returns-4 c =
     let s = c .before .before .before .before .before .before .before .before .before .before .before .before .before .before .before .before .before .before .before .before .before .before .before .args .s .now in
-    let e8 : u32At s 8 ≡ c .before .before .before .before .before .before .before .before .before .before .before .before .before .before .before .before .before .before .before .clock-ends .result = sym (c .before .before .before .before .before .before .before .before .before .before .before .before .before .before .before .before .wide .ensures .0 ∙ c .before .before .before .before .before .before .before .before .before .before .before .before .before .before .before .before .before .u32-at .ensures) ∙ c .before .before .before .before .before .before .before .before .before .before .before .before .before .before .before .if3 .left in
-    let e12 : c .before .before .before .before .before .before .before .before .before .before .before .before .before .wide2 .result ≡ u32At s 12 = c .before .before .before .before .before .before .before .before .before .before .before .before .before .wide2 .ensures .0 ∙ c .before .before .before .before .before .before .before .before .before .before .before .before .before .before .u32-at2 .ensures in
+    let e8 : u32At s 8 ≡ c .before .before .before .before .before .before .before .before .before .before .before .before .before .before .before .before .before .before .before .clock-ends .result = sym (c .before .before .before .before .before .before .before .before .before .before .before .before .before .before .before .before .index .ensures .0 ∙ c .before .before .before .before .before .before .before .before .before .before .before .before .before .before .before .before .before .u32-at .ensures) ∙ c .before .before .before .before .before .before .before .before .before .before .before .before .before .before .before .if3 .left in
+    let e12 : c .before .before .before .before .before .before .before .before .before .before .before .before .before .index2 .result ≡ u32At s 12 = c .before .before .before .before .before .before .before .before .before .before .before .before .before .index2 .ensures .0 ∙ c .before .before .before .before .before .before .before .before .before .before .before .before .before .before .u32-at2 .ensures in
     let t = c .before .before .before .before .before .before .before .before .before .before .before .before .check-rows .result in
     let et : t ≡ rowsTable s (u32At s 8) (u32At s 12) = c .before .before .before .before .before .before .before .before .before .before .before .before .check-rows .ensures ∙ ap₂ (rowsTable s) (sym e8) e12 in
-    let e16 : u32At s 16 ≡ t .next = sym (c .before .before .before .before .before .before .before .before .before .wide3 .ensures .0 ∙ c .before .before .before .before .before .before .before .before .before .before .u32-at3 .ensures) ∙ c .before .before .before .before .before .before .before .if5 .left in
-    let e20 : c .before .before .before .before .before .wide4 .result ≡ u32At s 20 = c .before .before .before .before .before .wide4 .ensures .0 ∙ c .before .before .before .before .before .before .u32-at4 .ensures in
+    let e16 : u32At s 16 ≡ t .next = sym (c .before .before .before .before .before .before .before .before .before .index3 .ensures .0 ∙ c .before .before .before .before .before .before .before .before .before .before .u32-at3 .ensures) ∙ c .before .before .before .before .before .before .before .if5 .left in
+    let e20 : c .before .before .before .before .before .index4 .result ≡ u32At s 20 = c .before .before .before .before .before .index4 .ensures .0 ∙ c .before .before .before .before .before .before .u32-at4 .ensures in
     let w = c .before .before .before .before .check-waits .result in
     let ew : w ≡ waitsTable s (u32At s 16) (u32At s 20) = c .before .before .before .before .check-waits .ensures ∙ ap₂ (waitsTable s) (sym e16) e20 in
     let wt = waits-told s (u32At s 16) (u32At s 20) w ew (c .before .before .before .if6 .taken) in
@@ -45,13 +45,13 @@ returns-4 c =
 returns-5 : tie.Need-returns-5
 returns-5 c =
     let s = c .before .before .before .before .before .before .before .before .before .before .before .before .before .before .before .before .before .before .before .before .before .before .before .before .before .args .s .now in
-    let e8 : u32At s 8 ≡ c .before .before .before .before .before .before .before .before .before .before .before .before .before .before .before .before .before .before .before .before .before .clock-ends .result = sym (c .before .before .before .before .before .before .before .before .before .before .before .before .before .before .before .before .before .before .wide .ensures .0 ∙ c .before .before .before .before .before .before .before .before .before .before .before .before .before .before .before .before .before .before .before .u32-at .ensures) ∙ c .before .before .before .before .before .before .before .before .before .before .before .before .before .before .before .before .before .if3 .left in
-    let e12 : c .before .before .before .before .before .before .before .before .before .before .before .before .before .before .before .wide2 .result ≡ u32At s 12 = c .before .before .before .before .before .before .before .before .before .before .before .before .before .before .before .wide2 .ensures .0 ∙ c .before .before .before .before .before .before .before .before .before .before .before .before .before .before .before .before .u32-at2 .ensures in
+    let e8 : u32At s 8 ≡ c .before .before .before .before .before .before .before .before .before .before .before .before .before .before .before .before .before .before .before .before .before .clock-ends .result = sym (c .before .before .before .before .before .before .before .before .before .before .before .before .before .before .before .before .before .before .index .ensures .0 ∙ c .before .before .before .before .before .before .before .before .before .before .before .before .before .before .before .before .before .before .before .u32-at .ensures) ∙ c .before .before .before .before .before .before .before .before .before .before .before .before .before .before .before .before .before .if3 .left in
+    let e12 : c .before .before .before .before .before .before .before .before .before .before .before .before .before .before .before .index2 .result ≡ u32At s 12 = c .before .before .before .before .before .before .before .before .before .before .before .before .before .before .before .index2 .ensures .0 ∙ c .before .before .before .before .before .before .before .before .before .before .before .before .before .before .before .before .u32-at2 .ensures in
     let t = c .before .before .before .before .before .before .before .before .before .before .before .before .before .before .check-rows .result in
     let et : t ≡ rowsTable s (u32At s 8) (u32At s 12) = c .before .before .before .before .before .before .before .before .before .before .before .before .before .before .check-rows .ensures ∙ ap₂ (rowsTable s) (sym e8) e12 in
     let told = rows-told s (u32At s 8) (u32At s 12) t et (c .before .before .before .before .before .before .before .before .before .before .before .before .before .if4 .taken) in
-    let e16 : u32At s 16 ≡ t .next = sym (c .before .before .before .before .before .before .before .before .before .before .before .wide3 .ensures .0 ∙ c .before .before .before .before .before .before .before .before .before .before .before .before .u32-at3 .ensures) ∙ c .before .before .before .before .before .before .before .before .before .if5 .left in
-    let e20 : c .before .before .before .before .before .before .before .wide4 .result ≡ u32At s 20 = c .before .before .before .before .before .before .before .wide4 .ensures .0 ∙ c .before .before .before .before .before .before .before .before .u32-at4 .ensures in
+    let e16 : u32At s 16 ≡ t .next = sym (c .before .before .before .before .before .before .before .before .before .before .before .index3 .ensures .0 ∙ c .before .before .before .before .before .before .before .before .before .before .before .before .u32-at3 .ensures) ∙ c .before .before .before .before .before .before .before .before .before .if5 .left in
+    let e20 : c .before .before .before .before .before .before .before .index4 .result ≡ u32At s 20 = c .before .before .before .before .before .before .before .index4 .ensures .0 ∙ c .before .before .before .before .before .before .before .before .u32-at4 .ensures in
     let w = c .before .before .before .before .before .before .check-waits .result in
     let ew : w ≡ waitsTable s (u32At s 16) (u32At s 20) = c .before .before .before .before .before .before .check-waits .ensures ∙ ap₂ (waitsTable s) (sym e16) e20 in
     let wt = waits-told s (u32At s 16) (u32At s 20) w ew (c .before .before .before .before .before .if6 .taken) in
@@ -61,13 +61,13 @@ returns-5 c =
 returns-6 : tie.Need-returns-6
 returns-6 c =
     let s = c .before .before .before .before .before .before .before .before .before .before .before .before .before .before .before .before .before .before .before .before .before .args .s .now in
-    let e8 : u32At s 8 ≡ c .before .before .before .before .before .before .before .before .before .before .before .before .before .before .before .before .before .clock-ends .result = sym (c .before .before .before .before .before .before .before .before .before .before .before .before .before .before .wide .ensures .0 ∙ c .before .before .before .before .before .before .before .before .before .before .before .before .before .before .before .u32-at .ensures) ∙ c .before .before .before .before .before .before .before .before .before .before .before .before .before .if3 .left in
-    let e12 : c .before .before .before .before .before .before .before .before .before .before .before .wide2 .result ≡ u32At s 12 = c .before .before .before .before .before .before .before .before .before .before .before .wide2 .ensures .0 ∙ c .before .before .before .before .before .before .before .before .before .before .before .before .u32-at2 .ensures in
+    let e8 : u32At s 8 ≡ c .before .before .before .before .before .before .before .before .before .before .before .before .before .before .before .before .before .clock-ends .result = sym (c .before .before .before .before .before .before .before .before .before .before .before .before .before .before .index .ensures .0 ∙ c .before .before .before .before .before .before .before .before .before .before .before .before .before .before .before .u32-at .ensures) ∙ c .before .before .before .before .before .before .before .before .before .before .before .before .before .if3 .left in
+    let e12 : c .before .before .before .before .before .before .before .before .before .before .before .index2 .result ≡ u32At s 12 = c .before .before .before .before .before .before .before .before .before .before .before .index2 .ensures .0 ∙ c .before .before .before .before .before .before .before .before .before .before .before .before .u32-at2 .ensures in
     let t = c .before .before .before .before .before .before .before .before .before .before .check-rows .result in
     let et : t ≡ rowsTable s (u32At s 8) (u32At s 12) = c .before .before .before .before .before .before .before .before .before .before .check-rows .ensures ∙ ap₂ (rowsTable s) (sym e8) e12 in
     let told = rows-told s (u32At s 8) (u32At s 12) t et (c .before .before .before .before .before .before .before .before .before .if4 .taken) in
-    let e16 : u32At s 16 ≡ t .next = sym (c .before .before .before .before .before .before .before .wide3 .ensures .0 ∙ c .before .before .before .before .before .before .before .before .u32-at3 .ensures) ∙ c .before .before .before .before .before .if5 .left in
-    let e20 : c .before .before .before .wide4 .result ≡ u32At s 20 = c .before .before .before .wide4 .ensures .0 ∙ c .before .before .before .before .u32-at4 .ensures in
+    let e16 : u32At s 16 ≡ t .next = sym (c .before .before .before .before .before .before .before .index3 .ensures .0 ∙ c .before .before .before .before .before .before .before .before .u32-at3 .ensures) ∙ c .before .before .before .before .before .if5 .left in
+    let e20 : c .before .before .before .index4 .result ≡ u32At s 20 = c .before .before .before .index4 .ensures .0 ∙ c .before .before .before .before .u32-at4 .ensures in
     let w = c .before .before .check-waits .result in
     let ew : w ≡ waitsTable s (u32At s 16) (u32At s 20) = c .before .before .check-waits .ensures ∙ ap₂ (waitsTable s) (sym e16) e20 in
     let fc = contents-few s (sym (c .before .before .before .before .before .before .before .before .before .before .before .before .before .before .before .before .before .before .before .contents-good .ensures .0) ∙ c .before .before .before .before .before .before .before .before .before .before .before .before .before .before .before .before .before .before .if1 .taken) in
@@ -81,8 +81,8 @@ returns-6 c =
 returns-7 : tie.Need-returns-7
 returns-7 c =
     let s = c .before .before .before .before .before .before .before .before .before .before .before .before .before .args .s .now in
-    let e8 : u32At s 8 ≡ c .before .before .before .before .before .before .before .before .before .clock-ends .result = sym (c .before .before .before .before .before .before .wide .ensures .0 ∙ c .before .before .before .before .before .before .before .u32-at .ensures) ∙ c .before .before .before .before .before .if3 .left in
-    let e12 : c .before .before .before .wide2 .result ≡ u32At s 12 = c .before .before .before .wide2 .ensures .0 ∙ c .before .before .before .before .u32-at2 .ensures in
+    let e8 : u32At s 8 ≡ c .before .before .before .before .before .before .before .before .before .clock-ends .result = sym (c .before .before .before .before .before .before .index .ensures .0 ∙ c .before .before .before .before .before .before .before .u32-at .ensures) ∙ c .before .before .before .before .before .if3 .left in
+    let e12 : c .before .before .before .index2 .result ≡ u32At s 12 = c .before .before .before .index2 .ensures .0 ∙ c .before .before .before .before .u32-at2 .ensures in
     let t = c .before .before .check-rows .result in
     let et : t ≡ rowsTable s (u32At s 8) (u32At s 12) = c .before .before .check-rows .ensures ∙ ap₂ (rowsTable s) (sym e8) e12 in
     let fc = contents-few s (sym (c .before .before .before .before .before .before .before .before .before .before .before .contents-good .ensures .0) ∙ c .before .before .before .before .before .before .before .before .before .before .if1 .taken) in

@@ -24,7 +24,7 @@ loop-again : tie.Need-loop-again Inv-loop μ-loop
 loop-again c =
     let a = c .before .before .before .before .before .args in
     let l = c .before .before .before .loop in
-    (search needs, each-turn (u32At (a .s .now)) 0 (a .t2) (a .n) (l .ms) (l .i) _ (omega arith) (omega arith) (c .u32-at .ensures ∙ ap (u32At (a .s .now)) (c .before .wide .ensures .0)) ∙ l .inv .1)
+    (search needs, each-turn (u32At (a .s .now)) 0 (a .t2) (a .n) (l .ms) (l .i) _ (omega arith) (omega arith) (c .u32-at .ensures ∙ ap (u32At (a .s .now)) (c .before .index .ensures .0)) ∙ l .inv .1)
 
 returns : tie.Need-returns Inv-loop μ-loop
 unfolding membersOf

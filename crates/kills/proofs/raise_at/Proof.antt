@@ -15,9 +15,9 @@ use Rattle.kills.proofs.raise_at.Tie as tie
 returns : tie.Need-returns
 returns c =
     let a = c .before .before .before .before .before .before .before .before .before .before .args in
-    let q = c .before .before .before .before .before .before .before .before .wide in
+    let q = c .before .before .before .before .before .before .before .before .index in
     let n = c .before .before .before .before .before .at-most in
-    let k : n .result ≡ min (u32At (a .t .now) (q .result)) 16 = omega (arith, n .ensures .0, c .before .before .before .before .before .before .wide2 .ensures .0, c .before .before .before .before .before .before .before .u32-at .ensures) in
+    let k : n .result ≡ min (u32At (a .t .now) (q .result)) 16 = omega (arith, n .ensures .0, c .before .before .before .before .before .before .index2 .ensures .0, c .before .before .before .before .before .before .before .u32-at .ensures) in
     c .raise-in .ensures
     ∙ ap (λ (ds : List Dot). raiseFrom (a .line .now) 0 (along dots (take (a .n) (a .actors .now)) ds))
     (padded-dots (a .t .now) (q .result + 4) _ (n .result) (omega arith) (c .before .before .before .padded .ensures) ∙ read-at (a .t .now) (a .at) (q .result) (n .result) (q .ensures .0) k)
@@ -25,9 +25,9 @@ returns c =
 returns-2 : tie.Need-returns-2
 returns-2 c =
     let a = c .before .before .before .before .before .before .before .before .args in
-    let q = c .before .before .before .before .before .before .wide in
+    let q = c .before .before .before .before .before .before .index in
     let n = c .before .before .before .at-most in
-    let k : n .result ≡ min (u32At (a .t .now) (q .result)) 16 = omega (arith, n .ensures .0, c .before .before .before .before .wide2 .ensures .0, c .before .before .before .before .before .u32-at .ensures) in
+    let k : n .result ≡ min (u32At (a .t .now) (q .result)) 16 = omega (arith, n .ensures .0, c .before .before .before .before .index2 .ensures .0, c .before .before .before .before .before .u32-at .ensures) in
     c .raise-in2 .ensures ∙ ap (λ (ds : List Dot). raiseFrom (a .line .now) 0 (along dots (take (a .n) (a .actors .now)) ds)) (read-at (a .t .now) (a .at) (q .result) (n .result) (q .ensures .0) k)
 
 pub raise-at-spec : {M : Type 1} → statement M

@@ -16,7 +16,7 @@ returns c =
     let a = c .before .before .before .before .before .before .before .before .args in
     c .raise-named .ensures
     ∙ ap (λ (ks : List ℕ). raised (a .out .now) 0 (along memberRows (take (a .n) (a .ms .now)) ks) (a .line .now))
-    (members-are (a .t .now) (a .at) (c .before .before .before .before .wide .result) (c .before .before .wide2 .result) (c .before .before .before .before .wide .ensures .0) (c .before .before .wide2 .ensures .0 ∙ c .before .before .before .u32-at .ensures))
+    (members-are (a .t .now) (a .at) (c .before .before .before .before .index .result) (c .before .before .index2 .result) (c .before .before .before .before .index .ensures .0) (c .before .before .index2 .ensures .0 ∙ c .before .before .before .u32-at .ensures))
 
 returns-2 : tie.Need-returns-2
 returns-2 c =

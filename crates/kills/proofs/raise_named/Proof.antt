@@ -33,7 +33,7 @@ returns : tie.Need-returns Inv-loop μ-loop
 returns c =
     let a = c .before .before .before .before .before .before .args in
     let l = c .before .loop in
-    let e : c .before .before .at-most .result ≡ min (u32At (a .t .now) (a .at)) 64 = omega (arith, c .before .before .at-most .ensures .0, c .before .before .before .wide .ensures .0, c .before .before .before .before .u32-at .ensures) in
+    let e : c .before .before .at-most .result ≡ min (u32At (a .t .now) (a .at)) 64 = omega (arith, c .before .before .at-most .ensures .0, c .before .before .before .index .ensures .0, c .before .before .before .before .u32-at .ensures) in
     sym (named-end (a .t .now) (a .ms .now) (l .out) (a .line .now) (a .n) (l .i) (l .p) (l .left) (omega arith)) ∙ l .inv .1
     ∙ ap (λ (k : ℕ). raised (a .out .now) 0 (along memberRows (take (a .n) (a .ms .now)) (membersAt (a .t .now) (a .at + 4) k)) (a .line .now)) e
 

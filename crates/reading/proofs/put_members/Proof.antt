@@ -26,7 +26,7 @@ loop-again : tie.Need-loop-again Inv-loop μ-loop
 loop-again c =
     let a = c .before .before .before .before .before .before .before .before .before .before .before .args in
     let l = c .before .before .before .before .before .before .before .before .loop in
-    (search needs, search needs, put-next (a .s .now) (a .places .now) (a .n) (l .i) (l .out) _ _ _ (omega arith) (omega arith) (c .before .before .before .before .wide .ensures .0) (c .before .before .before .u32-at .ensures) (c .before .before .put-u32 .ensures) ∙ l .inv .2)
+    (search needs, search needs, put-next (a .s .now) (a .places .now) (a .n) (l .i) (l .out) _ _ _ (omega arith) (omega arith) (c .before .before .before .before .index .ensures .0) (c .before .before .before .u32-at .ensures) (c .before .before .put-u32 .ensures) ∙ l .inv .2)
 
 returns : tie.Need-returns Inv-loop μ-loop
 returns c =

@@ -24,12 +24,12 @@ loop-holds c = (search needs, zero-add _)
 returns : tie.Need-returns Inv-loop μ-loop
 returns c =
     let a = c .before .before .before .before .before .before .before .args in
-    sym (seat-here (a .s .now) (a .places .now) (a .n) (c .before .before .before .before .before .loop .i) (a .member) _ _ (omega arith) (omega arith) (c .before .before .wide .ensures .0) (c .before .u32-at .ensures) (c .if1 .taken)) ∙ c .before .before .before .before .before .loop .inv .1
+    sym (seat-here (a .s .now) (a .places .now) (a .n) (c .before .before .before .before .before .loop .i) (a .member) _ _ (omega arith) (omega arith) (c .before .before .index .ensures .0) (c .before .u32-at .ensures) (c .if1 .taken)) ∙ c .before .before .before .before .before .loop .inv .1
 
 loop-again : tie.Need-loop-again Inv-loop μ-loop
 loop-again c =
     let a = c .before .before .before .before .before .before .before .args in
-    (search needs, sym (seat-next (a .s .now) (a .places .now) (a .n) (c .before .before .before .before .before .loop .i) (a .member) _ _ (omega arith) (omega arith) (c .before .before .wide .ensures .0) (c .before .u32-at .ensures) (c .if1 .left)) ∙ c .before .before .before .before .before .loop .inv .1)
+    (search needs, sym (seat-next (a .s .now) (a .places .now) (a .n) (c .before .before .before .before .before .loop .i) (a .member) _ _ (omega arith) (omega arith) (c .before .before .index .ensures .0) (c .before .u32-at .ensures) (c .if1 .left)) ∙ c .before .before .before .before .before .loop .inv .1)
 
 returns-2 : tie.Need-returns-2 Inv-loop μ-loop
 returns-2 c =

@@ -5,7 +5,7 @@ use Rattle.rows.proofs.clock_end.Statement.{statement}
 use Rattle.rows.proofs.clock_end.Tie as tie
 
 returns : tie.Need-returns
-returns c = (end-is _ _ _ (c .wide .ensures .0 ∙ c .before .u32-at .ensures), search needs)
+returns c = (end-is _ _ _ (c .index .ensures .0 ∙ c .before .u32-at .ensures), search needs)
 
 pub clock-end-spec : {M : Type 1} → statement M
 clock-end-spec =

@@ -28,7 +28,7 @@ returns-2 c =
     let k = c .before .before .before .before .before .at-most-32 in
     let q = c .before .before .before .before .before .before .before .before .clock-end in
     let a = c .before .before .before .before .before .before .before .before .before .before .before .args in
-    let f : k .result ≡ min (u32At (a .s .now) (q .result)) 32 = omega (arith, k .ensures .0, c .before .before .before .before .before .before .wide .ensures .0, c .before .before .before .before .before .before .before .u32-at .ensures) in
+    let f : k .result ≡ min (u32At (a .s .now) (q .result)) 32 = omega (arith, k .ensures .0, c .before .before .before .before .before .before .index .ensures .0, c .before .before .before .before .before .before .before .u32-at .ensures) in
     names-here (a .s .now) (l .p) (k .result - l .i) (a .member .0) (omega arith) (omega arith) ∙ l .inv .2 ∙ names-all (a .s .now) (a .at) (q .result) (k .result) (a .member) (q .ensures .0) f
 
 loop-again : tie.Need-loop-again Inv-loop μ-loop
@@ -44,7 +44,7 @@ returns-3 c =
     let k = c .before .before .at-most-32 in
     let q = c .before .before .before .before .before .clock-end in
     let a = c .before .before .before .before .before .before .before .before .args in
-    let f : k .result ≡ min (u32At (a .s .now) (q .result)) 32 = omega (arith, k .ensures .0, c .before .before .before .wide .ensures .0, c .before .before .before .before .u32-at .ensures) in
+    let f : k .result ≡ min (u32At (a .s .now) (q .result)) 32 = omega (arith, k .ensures .0, c .before .before .before .index .ensures .0, c .before .before .before .before .u32-at .ensures) in
     sym (names-end (a .s .now) (l .p) (k .result - l .i) (a .member .0) (omega arith)) ∙ l .inv .2 ∙ names-all (a .s .now) (a .at) (q .result) (k .result) (a .member) (q .ensures .0) f
 
 pub names-spec : {M : Type 1} → statement M

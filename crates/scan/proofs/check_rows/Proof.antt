@@ -49,7 +49,7 @@ loop-again c =
     let k = a .count - l .i in
     let j = a .count - (l .i + 1) in
     let s = a .s .now in
-    let e : c .wide .result ≡ u32At s (l .p) = c .wide .ensures .0 ∙ c .before .u32-at .ensures in
+    let e : c .index .result ≡ u32At s (l .p) = c .index .ensures .0 ∙ c .before .u32-at .ensures in
     let r = row-some s (l .p) (l .low) next (c .before .before .before .row-ends .ensures) (c .before .before .if4 .left) in (
       search needs,
       row-inside s (l .p) (l .low) next (c .before .before .before .row-ends .ensures) (c .before .before .if4 .left),

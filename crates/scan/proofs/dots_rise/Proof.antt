@@ -28,7 +28,7 @@ loop-again : tie.Need-loop-again Inv-loop μ-loop
 loop-again c =
     let a = c .before .before .before .before .before .before .before .before .args in
     let l = c .before .before .before .before .before .before .loop in
-    let e : c .before .before .before .wide .result ≡ u32At (a .s .now) (l .p) = c .before .before .before .wide .ensures .0 ∙ c .before .before .before .before .u32-in .ensures in
+    let e : c .before .before .before .index .result ≡ u32At (a .s .now) (l .p) = c .before .before .before .index .ensures .0 ∙ c .before .before .before .before .u32-in .ensures in
     (search needs, rw e (sym (rise-next (a .s .now) (l .p) (l .left) (l .left - 1) (l .low) (omega arith) (omega arith) (λ z. omega arith)) ∙ l .inv .1))
 
 returns-3 : tie.Need-returns-3 Inv-loop μ-loop

@@ -21,13 +21,13 @@ returns-4 c = let a = c .before .before .before .before .before .before .before 
 returns-5 : tie.Need-returns-5
 returns-5 c =
     let a = c .before .before .before .before .before .before .before .before .before .args in
-    let e : c .before .before .before .before .wide .result ≡ u32At (a .s .now) (a .at) = c .before .before .before .before .wide .ensures .0 ∙ c .before .before .before .before .before .u32-at .ensures in
+    let e : c .before .before .before .before .index .result ≡ u32At (a .s .now) (a .at) = c .before .before .before .before .index .ensures .0 ∙ c .before .before .before .before .before .u32-at .ensures in
     rw e (named-stands (a .s .now) (a .at) (omega arith) (omega arith) _ (rw e at (c .before .members-rise .ensures)) (c .if5 .taken))
 
 returns-6 : tie.Need-returns-6
 returns-6 c =
     let a = c .before .before .before .before .before .before .before .before .before .args in
-    let e : c .before .before .before .before .wide .result ≡ u32At (a .s .now) (a .at) = c .before .before .before .before .wide .ensures .0 ∙ c .before .before .before .before .before .u32-at .ensures in
+    let e : c .before .before .before .before .index .result ≡ u32At (a .s .now) (a .at) = c .before .before .before .before .index .ensures .0 ∙ c .before .before .before .before .before .u32-at .ensures in
     named-falls (a .s .now) (a .at) _ (rw e at (c .before .members-rise .ensures)) (c .if5 .left)
 
 pub members-end-spec : {M : Type 1} → statement M

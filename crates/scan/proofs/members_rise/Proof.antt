@@ -25,7 +25,7 @@ loop-again : tie.Need-loop-again Inv-loop μ-loop
 loop-again c =
     let a = c .before .before .before .before .before .before .args in
     let l = c .before .before .before .before .loop in
-    let e : c .before .wide .result ≡ u32At (a .s .now) (l .p) = c .before .wide .ensures .0 ∙ c .before .before .u32-in .ensures in
+    let e : c .before .index .result ≡ u32At (a .s .now) (l .p) = c .before .index .ensures .0 ∙ c .before .before .u32-in .ensures in
     (search needs, rw e (sym (member-next (a .s .now) (l .p) (l .left) (l .left - 1) (l .low) (omega arith) (omega arith)) ∙ l .inv .1))
 
 returns-2 : tie.Need-returns-2 Inv-loop μ-loop

@@ -41,7 +41,7 @@ put-lines-requires : tie.Need-put-lines-requires Inv-actors μ-actors Inv-theirs
 put-lines-requires c κs =
     let z = c .before .before .before .before .before .pre in
     let s = clock-stands _ _ _ (z .2) in
-    let e = c .before .wide .ensures .0 ∙ c .before .before .u32-at .ensures in
+    let e = c .before .index .ensures .0 ∙ c .before .before .u32-at .ensures in
     (z .1, search needs, z .3, omega (arith, s .count, e), omega (arith, s .room, e), clock-rises _ _ s e)
 
 search-holds : tie.Need-search-holds Inv-actors μ-actors Inv-theirs μ-theirs Inv-search μ-search
@@ -49,7 +49,7 @@ unfolding atOurs
 search-holds c =
     let z = c .before .before .before .before .before .before .pre in
     let s = clock-stands _ _ _ (z .2) in
-    let e = c .before .before .wide .ensures .0 ∙ c .before .before .before .u32-at .ensures in
+    let e = c .before .before .index .ensures .0 ∙ c .before .before .before .u32-at .ensures in
     (search needs, refl, record { ours-ok = z .2; theirs-ok = z .3; ours-long = omega (arith, z .0, z .2 .few); theirs-long = omega (arith, z .1, z .3 .few); actors-are = e; actors-few = omega (arith, s .count, e); lines-are = c .put-lines .ensures }, refl)
 
 put-keys-requires : tie.Need-put-keys-requires Inv-actors μ-actors Inv-theirs μ-theirs Inv-search μ-search
@@ -57,13 +57,13 @@ put-keys-requires c κs =
     let r = c .before .before .before .before .before .before .before .search .inv .2 in
     let s = clock-stands _ _ _ (r .ours-ok) in
     let e = r .actors-are in
-    (dots-inside _ _ _ (clock-at _ _ _ _ _ (r .ours-ok) (omega arith) (c .before .before .before .before .wide2 .ensures .0)) refl, omega (arith, s .room, e), clock-rises _ _ s e, omega (arith, r .actors-few))
+    (dots-inside _ _ _ (clock-at _ _ _ _ _ (r .ours-ok) (omega arith) (c .before .before .before .before .index2 .ensures .0)) refl, omega (arith, s .room, e), clock-rises _ _ s e, omega (arith, r .actors-few))
 
 theirs-holds : tie.Need-theirs-holds Inv-actors μ-actors Inv-theirs μ-theirs Inv-search μ-search
 theirs-holds c =
     let v = c .before .before .before .before .before .before .before .before .before .search .inv in
-    let e = c .before .before .before .before .before .before .wide2 .ensures .0 in
-    let f = c .before .before .before .wide3 .ensures .0 ∙ c .before .before .before .before .u32-at3 .ensures in (
+    let e = c .before .before .before .before .before .before .index2 .ensures .0 in
+    let f = c .before .before .before .index3 .ensures .0 ∙ c .before .before .before .before .u32-at3 .ensures in (
       search needs,
       v .1,
       search needs,
@@ -81,13 +81,13 @@ theirs-again c =
     (search needs, v .1, v .2, v .3, sym (their-past _ _ _ _ _ _ _ _ _ _ (omega arith) (r .theirs-long) refl (row-apart _ _ _ _ _ _ _ _ _ _ _ _ _ _ _ r (v .3) (omega arith) (omega arith) refl (c .before .apart .ensures (c .if1 .taken)))) ∙ v .4)
 
 dots-of-requires : tie.Need-dots-of-requires Inv-actors μ-actors Inv-theirs μ-theirs Inv-search μ-search
-dots-of-requires c κs = omega (arith, clock-at _ _ _ _ _ (c .before .before .before .before .before .before .before .before .before .before .before .before .before .before .before .before .before .before .search .inv .2 .theirs-ok) (omega arith) (c .before .wide4 .ensures .0) .room)
+dots-of-requires c κs = omega (arith, clock-at _ _ _ _ _ (c .before .before .before .before .before .before .before .before .before .before .before .before .before .before .before .before .before .before .search .inv .2 .theirs-ok) (omega arith) (c .before .index4 .ensures .0) .room)
 
 actors-holds : tie.Need-actors-holds Inv-actors μ-actors Inv-theirs μ-theirs Inv-search μ-search
 actors-holds c =
     let r = c .before .before .before .before .before .before .before .before .before .before .before .before .before .before .before .before .before .before .before .search .inv .2 in
     let v = c .before .before .before .before .before .before .before .before .before .theirs .inv in
-    let e = c .before .before .wide4 .ensures .0 in
+    let e = c .before .before .index4 .ensures .0 in
     let d = c .dots-of .ensures in
     (search needs, omega (arith, d, dots-inside _ _ _ (clock-at _ _ _ _ _ (r .theirs-ok) (omega arith) e) (d .1)), v .1, sym (their-row _ _ _ _ _ _ _ _ _ _ _ _ _ _ _ (omega arith) (r .theirs-long) e (v .3 .member-is) (v .3 .count-is) (c .before .u32-at4 .ensures) (d .0) (d .1)) ∙ v .4)
 
@@ -95,7 +95,7 @@ dot-in-requires : tie.Need-dot-in-requires Inv-actors μ-actors Inv-theirs μ-th
 dot-in-requires c κs = let o = c .before .before .before .before .before .before .before .before .before .before .before .theirs .inv .3 in omega (arith, dots-inside _ _ _ (o .stands-ok) (o .count-is))
 
 add-k : tie.Need-add-k Inv-actors μ-actors Inv-theirs μ-theirs Inv-search μ-search
-add-k c = let t = c .before .before .before .before .actors-test .taken in let f = c .before .before .before .before .before .before .before .before .before .before .before .before .before .before .before .before .before .before .before .wide3 .ensures in search needs
+add-k c = let t = c .before .before .before .before .actors-test .taken in let f = c .before .before .before .before .before .before .before .before .before .before .before .before .before .before .before .before .before .before .before .index3 .ensures in search needs
 
 actors-again : tie.Need-actors-again Inv-actors μ-actors Inv-theirs μ-theirs Inv-search μ-search
 actors-again c =

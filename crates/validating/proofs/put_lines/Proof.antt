@@ -23,13 +23,13 @@ put-keys-requires : tie.Need-put-keys-requires Inv-loop μ-loop
 put-keys-requires c κs =
     let z = c .before .before .before .before .before .before .before .pre in
     let v = c .before .before .before .before .loop .inv in
-    (dots-inside _ _ _ (clock-at _ _ _ _ _ (z .2) (omega arith) (c .before .wide .ensures .0)) refl, z .4, z .5, omega (arith, z .2 .few, z .3, v .1 .long))
+    (dots-inside _ _ _ (clock-at _ _ _ _ _ (z .2) (omega arith) (c .before .index .ensures .0)) refl, z .4, z .5, omega (arith, z .2 .few, z .3, v .1 .long))
 
 loop-again : tie.Need-loop-again Inv-loop μ-loop
 loop-again c =
     let z = c .before .before .before .before .before .before .before .before .pre in
     let v = c .before .before .before .before .before .loop .inv in
-    (search needs, lines-turn _ _ _ _ _ _ _ _ (omega (arith, z .2 .few)) (z .3) (length-listAt _ _ _ _ _) (c .before .before .wide .ensures .0) (c .put-keys .ensures) (v .1))
+    (search needs, lines-turn _ _ _ _ _ _ _ _ (omega (arith, z .2 .few)) (z .3) (length-listAt _ _ _ _ _) (c .before .before .index .ensures .0) (c .put-keys .ensures) (v .1))
 
 returns : tie.Need-returns Inv-loop μ-loop
 returns c =

@@ -7,7 +7,7 @@ use Rattle.walk.proofs.start_at.Statement.{statement}
 use Rattle.walk.proofs.start_at.Tie as tie
 
 returns : tie.Need-returns
-returns c = let a = c .before .before .before .before .before .args in start-good (a .s .now) _ (image-good (a .s .now) (c .before .before .before .check .result) (c .before .before .before .check .ensures) true (c .before .before .if1 .taken) .0) (c .wide .ensures .0 ∙ c .before .u32-at .ensures)
+returns c = let a = c .before .before .before .before .before .args in start-good (a .s .now) _ (image-good (a .s .now) (c .before .before .before .check .result) (c .before .before .before .check .ensures) true (c .before .before .if1 .taken) .0) (c .index .ensures .0 ∙ c .before .u32-at .ensures)
 
 returns-2 : tie.Need-returns-2
 returns-2 c = let a = c .before .before .before .args in start-bad (a .s .now) (image-good (a .s .now) (c .before .check .result) (c .before .check .ensures) false (c .if1 .left) .0)
