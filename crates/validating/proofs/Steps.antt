@@ -6,11 +6,10 @@ use mathlib.Core.List.{List, [], _∷_, _++_, map, append-assoc}
 use native.Mathlib.Omega.{arith}
 use lib.ListN.{length, take, set, getD}
 use lib.Seq.{sets, slice}
-use borrow.Author.Tests.{eq-eqb, ne-eqb}
 use Rattle.tables.specs.Table.{All}
 use Rattle.tables.specs.Zip.{said}
 use Rattle.dots.specs.declared.Dot.{Dot}
-use Rattle.dots.specs.Dot.{actorOf, dot, dots}
+use Rattle.dots.specs.Dot.{actorOf, dots}
 use Rattle.dots.specs.Rising.{rising, first-of}
 use Rattle.clocks.proofs.Steps.{ahead, done}
 use Rattle.replica.specs.Replica.{Entry}
@@ -24,7 +23,7 @@ use Rattle.fields.proofs.Steps.{list-step, list-end}
 use Rattle.kills.specs.Lines.{reach, along}
 use Rattle.kills.proofs.Steps.{skip-dot, stop-dot, end-dot, counted-none, counted-first, counted-other}
 use Rattle.validating.specs.declared.Validation.{Validation}
-use Rattle.validating.specs.declared.Validation.the-variants.{Valid, DoubleSpent}
+use Rattle.validating.specs.declared.Validation.the-variants.{Valid}
 use Rattle.validating.specs.Search.{Sight, sight, reportable, spotted, sights, sightsBeside, sightsOf, spentIs, verdict, Listed, Walked, keyOf, keysOf}
 
 -- ---- the walk past an actor, with the dots from p on ahead
@@ -129,6 +128,10 @@ module _ (a ours : List ℕ) (na : ℕ) (b theirs : List ℕ) (nb : ℕ) where
   unfoldable pub atActors : (i p our n j their k y left : ℕ) → Validation
   atActors i p our n j their k y left =
       verdict (first spotted (sights our their (dotsAt a (p + 8 + 12 * k) (n - k)) (dotsAt b y left) ++ (sightsBeside (rowAt a p) (map (rowAt b) (slice (j + 1) nb theirs)) ++ later i)))
+
+  pub whole-is : atOurs 0 ≡ verdict (first spotted (sightsOf (map (rowAt a) (take na ours)) they))
+  unfolding atOurs
+  whole-is = refl
 
   module _ (i : ℕ) where
     pub our-row : (p : ℕ) → i < na → na ≤ length ours → p ≡ getD ours i 0 → atOurs i ≡ atTheirs i p 0

@@ -1,4 +1,3 @@
-use mathlib.Core.Path.{_≡_}
 use Rattle.layout.specs.Clock.{dotIn}
 use borrow.Author.Needs.{needs}
 use Rattle.validating.proofs.dot_in.Statement.{statement}

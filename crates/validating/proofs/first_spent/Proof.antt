@@ -1,13 +1,9 @@
 use Prim.Native.Nat.{_+_, _*_, _-_, _≤_}
 use mathlib.Core.Path.{_≡_, refl, sym, _∙_}
-use mathlib.Core.List.{map}
 use native.Mathlib.Omega.{arith}
-use lib.ListN.{length, take}
-use Rattle.replica.specs.Validate.{first}
-use Rattle.layout.specs.Rows.{rowAt}
+use lib.ListN.{length}
 use Rattle.validating.specs.declared.Validation.the-variants.{Valid}
-use Rattle.validating.specs.Search.{spotted, sightsOf, verdict}
-use Rattle.validating.proofs.Steps.{atOurs, atTheirs, atActors, our-row, our-end, their-row, their-past, their-end, dot-end, dot-here, dot-next, next-above, clock-at, dots-inside}
+use Rattle.validating.proofs.Steps.{atOurs, atTheirs, atActors, whole-is, our-row, our-end, their-row, their-past, their-end, dot-end, dot-here, dot-next, next-above, clock-at, dots-inside}
 use Rattle.validating.proofs.Keys.{Ready, OurRow, row-apart, clock-stands, clock-rises}
 use borrow.Author.Needs.{needs}
 use Rattle.validating.proofs.first_spent.Statement.{statement}
@@ -16,7 +12,7 @@ use Rattle.validating.proofs.first_spent.Tie as tie
 abbrev Inv-actors : tie.InvT-actors
 Inv-actors a ours na b theirs nb m lines found₀ i p our n keys j q their ahead₀ k₀ found ahead k =
     (k ≤ n) × (ahead .place + 12 * ahead .left ≤ length b) × (found ≡ Valid)
-    × (atActors a ours na b theirs nb i p our n j their k (ahead .place) (ahead .left) ≡ verdict (first spotted (sightsOf (map (rowAt a) (take na ours)) (map (rowAt b) (take nb theirs)))))
+    × (atActors a ours na b theirs nb i p our n j their k (ahead .place) (ahead .left) ≡ atOurs a ours na b theirs nb 0)
 
 abbrev μ-actors : tie.MeasureT-actors
 μ-actors a ours na b theirs nb m lines found₀ i p our n keys j q their ahead₀ k₀ found ahead k = n - k
@@ -24,7 +20,7 @@ abbrev μ-actors : tie.MeasureT-actors
 abbrev Inv-theirs : tie.InvT-theirs
 Inv-theirs a ours na b theirs nb m lines found₀ i p our n keys j₀ found j =
     (j ≤ nb) × (found ≡ Valid) × (length keys ≡ 16) × OurRow a ours keys i p our n m
-    × (atTheirs a ours na b theirs nb i p j ≡ verdict (first spotted (sightsOf (map (rowAt a) (take na ours)) (map (rowAt b) (take nb theirs)))))
+    × (atTheirs a ours na b theirs nb i p j ≡ atOurs a ours na b theirs nb 0)
 
 abbrev μ-theirs : tie.MeasureT-theirs
 μ-theirs a ours na b theirs nb m lines found₀ i p our n keys j₀ found j = nb - j
@@ -32,7 +28,7 @@ abbrev μ-theirs : tie.MeasureT-theirs
 abbrev Inv-search : tie.InvT-search
 Inv-search a ours na b theirs nb m lines found₀ i₀ found i =
     (i ≤ na) × (found ≡ Valid) × Ready a ours b theirs lines na nb m
-    × (atOurs a ours na b theirs nb i ≡ verdict (first spotted (sightsOf (map (rowAt a) (take na ours)) (map (rowAt b) (take nb theirs)))))
+    × (atOurs a ours na b theirs nb i ≡ atOurs a ours na b theirs nb 0)
 
 abbrev μ-search : tie.MeasureT-search
 μ-search a ours na b theirs nb m lines found₀ i₀ found i = na - i
@@ -45,7 +41,6 @@ put-lines-requires c κs =
     (z .1, search needs, z .3, omega (arith, s .count, e), omega (arith, s .room, e), clock-rises _ _ s e)
 
 search-holds : tie.Need-search-holds Inv-actors μ-actors Inv-theirs μ-theirs Inv-search μ-search
-unfolding atOurs
 search-holds c =
     let z = c .before .before .before .before .before .before .pre in
     let s = clock-stands _ _ _ (z .2) in
@@ -120,13 +115,13 @@ search-again : tie.Need-search-again Inv-actors μ-actors Inv-theirs μ-theirs I
 search-again c = let v = c .before .theirs .inv in (search needs, v .1, c .before .before .before .before .before .before .before .before .before .before .before .search .inv .2, sym (their-end _ _ _ _ _ _ _ _ _ (omega arith)) ∙ v .4)
 
 returns : tie.Need-returns Inv-actors μ-actors Inv-theirs μ-theirs Inv-search μ-search
-returns c = let v = c .before .search .inv in v .1 ∙ sym (our-end _ _ _ _ _ _ _ (omega arith)) ∙ v .3
+returns c = let v = c .before .search .inv in v .1 ∙ sym (our-end _ _ _ _ _ _ _ (omega arith)) ∙ v .3 ∙ whole-is _ _ _ _ _ _
 
 returns-2 : tie.Need-returns-2 Inv-actors μ-actors Inv-theirs μ-theirs Inv-search μ-search
 returns-2 c =
     let o = c .before .before .before .before .before .before .before .before .before .before .before .before .before .before .before .before .theirs .inv .3 in
     let d = c .before .before .before .before .dot-in .ensures in
-    c .double-spent .ensures ∙ sym (dot-here _ _ _ _ _ _ _ _ _ _ _ _ _ _ _ _ _ _ _ (omega arith) d (next-above _ _ _ _ _ (o .stands-ok) (o .count-is) d) (c .before .before .before .walk-past .ensures .0) (sym (c .before .before .reportable .ensures) ∙ c .before .if2 .taken)) ∙ c .before .before .before .before .before .before .actors .inv .3
+    c .double-spent .ensures ∙ sym (dot-here _ _ _ _ _ _ _ _ _ _ _ _ _ _ _ _ _ _ _ (omega arith) d (next-above _ _ _ _ _ (o .stands-ok) (o .count-is) d) (c .before .before .before .walk-past .ensures .0) (sym (c .before .before .reportable .ensures) ∙ c .before .if2 .taken)) ∙ c .before .before .before .before .before .before .actors .inv .3 ∙ whole-is _ _ _ _ _ _
 
 pub first-spent-spec : {M : Type 1} → statement M
 first-spent-spec =
