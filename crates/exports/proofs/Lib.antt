@@ -1,4 +1,3 @@
 pub mod Replied
 pub mod Short
 pub mod Named
-pub mod Clocks

@@ -1,12 +1,11 @@
 -- What a call has found is what its definition replies.
-use Prim.Native.Nat.{ℕ, _+_, _*_, _≤_, _<_}
+use Prim.Native.Nat.{ℕ, _+_, _*_}
 use mathlib.Core.Path.{_≡_, refl, ap, _∙_}
 use mathlib.Core.Bool.{Bool, true, false}
 use mathlib.Core.List.{List, []}
 use lib.Dec.{eqb}
 use lib.ListN.{length}
 use lib.Seq.{sets}
-use borrow.Author.Tests.{ne-eqb, lt-ltb, le-ltb}
 use Rattle.tables.specs.Table.{pick}
 use Rattle.clocks.specs.declared.VClock.{VClock}
 use Rattle.clocks.specs.VClock.{dotsOf}
@@ -23,7 +22,7 @@ use Rattle.operations.specs.Calls.{applyCall, resetCall}
 use Rattle.reading.specs.declared.ReadAnswer.{ReadAnswer}
 use Rattle.reading.specs.declared.MembersAnswer.{MembersAnswer}
 use Rattle.reading.specs.Calls.{containsCall, membersRead, readNumber, membersAnswer, readCall, readOutput, ReadMeets}
-use Rattle.exports.specs.Reply.{oneNumber, reply, fitted, Replies}
+use Rattle.replies.specs.Reply.{oneNumber, reply, fitted, Replies}
 use Rattle.exports.specs.Calls.{replicaReply, containsReply, readReply, clockReply}
 
 -- a number alone
@@ -72,17 +71,3 @@ module _ (before after : List ℕ) (r : ℕ) where
       → Replies (fitted (length before) (x .no) long (encodeClock (dotsOf (x .clock)))) before r after → Replies (clockReply s (length before)) before r after
   unfolding clockReply
   clock-replies s x long e f h = rw (← e, ← f) h
-
--- bytes that are written where they fit
-module _ (before bytes : List ℕ) (no low r : ℕ) where
-  pub fitted-refused : (no ≡ 0 → ⊥) → r ≡ no * 4294967296 + 0 → Replies (fitted (length before) no low bytes) before r before
-  unfolding fitted reply
-  fitted-refused n e = record { answer = simp (ne-eqb no 0 n) e; output = simp (ne-eqb no 0 n) }
-
-  pub fitted-short : no ≡ 0 → length before < length bytes → r ≡ 10 * 4294967296 + 0 → Replies (fitted (length before) no low bytes) before r before
-  unfolding fitted reply
-  fitted-short n h e = record { answer = rw (n, lt-ltb (length before) (length bytes) h) e; output = rw (n, lt-ltb (length before) (length bytes) h) }
-
-  pub fitted-put : (after : List ℕ) → no ≡ 0 → length bytes ≤ length before → r ≡ 0 * 4294967296 + low → after ≡ sets before 0 bytes → Replies (fitted (length before) no low bytes) before r after
-  unfolding fitted reply
-  fitted-put after n h e f = record { answer = rw (n, le-ltb (length before) (length bytes) h) e; output = rw (n, le-ltb (length before) (length bytes) h) f }

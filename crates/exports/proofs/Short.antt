@@ -1,5 +1,5 @@
 -- Every length and count fits the lower half.
-use Prim.Native.Nat.{ℕ, _+_, _*_, _≤_, min}
+use Prim.Native.Nat.{ℕ, _≤_}
 use mathlib.Core.Path.{_≡_, refl, sym, ap, _∙_}
 use mathlib.Core.Bool.{Bool, true, false, not, _&&_, false≢true}
 use mathlib.Core.List.{List}
@@ -22,9 +22,7 @@ use Rattle.replica.specs.Limits.{full, Within, wellFormed, unbroken-right, well
 use Rattle.replica.specs.History.{Event, Apply, MergeWith, Reset, Add as Adds, Remove as Removes, apply, step}
 use Rattle.replica.specs.LimitLaws.{fits, step-well-formed}
 use Rattle.replica.specs.Reads.{read}
-use Rattle.layout.specs.Clock.{encodeClock}
 use Rattle.layout.specs.Image.{encode, imageOf, goodImage}
-use Rattle.layout.specs.Kit.{length-encodeClock}
 use Rattle.layout.specs.Main.{at-most, good-formed, empty-length}
 use Rattle.results.specs.declared.Written.{Written}
 use Rattle.results.specs.Call.{Call, numberOf, answered, answerOf, Meets}
@@ -34,10 +32,6 @@ use Rattle.operations.specs.Calls.{operated, unfitArguments, applyCall, resetCa
 use Rattle.merging.specs.Merge.{mergeCall}
 use Rattle.reading.specs.declared.MembersAnswer.{MembersAnswer}
 use Rattle.reading.specs.Calls.{emptyCall, membersRead, readNumber, membersAnswer, readCall, ReadMeets}
-
--- a clock takes at most 196 bytes
-pub clock-bytes : (c : VClock) → length (c .dots) ≡ 16 → length (encodeClock (dotsOf c)) ≡ 4 + 12 * min (c .len) 16
-clock-bytes c long = length-encodeClock (dotsOf c) ∙ simp (length-take, long)
 
 -- a replica that a call writes is as long as its image
 module _ (c : Call) (orderly : Orderly c) (most : NoneApplies (c .refusals) → Within full (c .result) → length (encode (c .result)) ≤ 18268) where

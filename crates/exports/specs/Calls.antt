@@ -1,16 +1,14 @@
 -- The calls of include/gatelichen.h, each as the reply to what it is lent; `room` is the length of `out`.
 use Prim.Native.Nat.{ℕ}
 use mathlib.Core.Option.{Option, none, some}
-use mathlib.Core.List.{List, [], _++_}
+use mathlib.Core.List.{List, []}
 use lib.ListN.{length}
 use Rattle.tables.specs.Table.{pick}
 use Rattle.dots.specs.declared.Dot.{Dot}
-use Rattle.dots.specs.declared.DotRange.{DotRange}
 use Rattle.clocks.specs.VClock.{dotsOf, vclock}
 use Rattle.replica.specs.Limits.{full}
 use Rattle.replica.specs.Validate.{Spent}
-use Rattle.layout.specs.Fields.{le32, le64}
-use Rattle.layout.specs.Clock.{encodeDot, encodeClock}
+use Rattle.layout.specs.Clock.{encodeClock}
 use Rattle.layout.specs.Rows.{encodeMembers}
 use Rattle.layout.specs.Image.{encode}
 use Rattle.image.specs.Image.{checkCall, clockCall}
@@ -18,10 +16,10 @@ use Rattle.results.specs.Call.{Call, numberOf}
 use Rattle.operations.specs.declared.Op.the-variants.{Add, Remove}
 use Rattle.operations.specs.Calls.{validateOpCall}
 use Rattle.reading.specs.Calls.{containsCall, membersRead, readNumber}
-use Rattle.validating.specs.declared.Spent.{Spent as SpentDot}
 use Rattle.validating.specs.Calls.{Validated, validateMergeCall}
-use Rattle.exports.specs.Reply.{Reply, reply, fitted, ifRoom}
-use Rattle.exports.specs.Lent.{clockLent}
+use Rattle.replies.specs.Reply.{Reply, reply, fitted, ifRoom}
+use Rattle.replies.specs.Named.{namedGap, spentBytes}
+use Rattle.replies.specs.Lent.{clockLent}
 
 -- "Whether the bytes are a well-formed image of a replica."
 unfoldable pub checkReply : List ℕ → Reply
@@ -44,14 +42,6 @@ readReply s room = reply (readNumber s room) (length (membersRead s)) (encodeMem
 unfoldable pub clockReply : List ℕ → ℕ → Reply
 clockReply s room = let x = clockCall s in fitted room (x .no) (length (encodeClock (dotsOf (x .clock)))) (encodeClock (dotsOf (x .clock)))
 
--- "start, the first counter missing, and end, the dot's counter, which is not missing itself; 64-bit little-endian"
-unfoldable pub gapBytes : DotRange → List ℕ
-gapBytes g = le64 (g .start) ++ le64 (g .end)
-
-unfoldable pub namedGap : Option DotRange → List ℕ
-namedGap none = []
-namedGap (some g) = gapBytes g
-
 -- "Whether an add under the dot actor.counter follows what the replica has seen of the actor. .. At 11 it writes the gap where 16 bytes fit"
 unfoldable pub validateAddReply : List ℕ → Dot → List ℕ → ℕ → Reply
 validateAddReply s d ms room = let v = validateOpCall s (Add d) (vclock []) ms in record { number = v .number; low = 0; bytes = ifRoom room (namedGap (v .range)) }
@@ -59,13 +49,6 @@ validateAddReply s d ms room = let v = validateOpCall s (Add d) (vclock []) ms i
 -- "Whether the arguments of a remove are good ones."
 unfoldable pub validateRemoveReply : List ℕ → List ℕ → List ℕ → Reply
 validateRemoveReply s c ms = reply ((validateOpCall s Remove (clockLent c) ms) .number) 0 []
-
--- "actor, counter (64 bits), a's member, b's member; little-endian"
-unfoldable pub spentBytes : Spent → List ℕ
-spentBytes x = encodeDot (x .dot) ++ (le32 (x .our) ++ le32 (x .their))
-
-abbrev pub spentOf : SpentDot → Spent
-spentOf x = record { dot = x .dot; our = x .our .0; their = x .their .0 }
 
 unfoldable pub namedSpent : Option Spent → List ℕ
 namedSpent none = []

@@ -19,7 +19,7 @@ use Rattle.layout.specs.Formed.{Formed, EntryFine, formed-from}
 use Rattle.layout.specs.Main.{good-formed}
 use Rattle.image.specs.Image.{clockCall}
 use Rattle.reading.specs.Calls.{containsCall, readAnswer}
-use Rattle.exports.specs.Reply.{fitted}
+use Rattle.replies.specs.Reply.{fitted}
 use Rattle.exports.specs.Calls.{containsReply, clockReply}
 
 module _ (s : List ℕ) (good : goodImage s ≡ true) where

@@ -1,4 +1,2 @@
-pub mod Reply
-pub mod Lent
 pub mod Calls
 pub mod Laws

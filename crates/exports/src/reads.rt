@@ -1,14 +1,11 @@
 // What is asked of a replica: the check, contains, read and the replica's clock.
 ghost use mathlib.Core.Path.{_≡_};
-ghost use Prim.Native.Nat.{_<_};
 ghost use lib.ListN.{length};
-ghost use Rattle.clocks.specs.VClock.{dotsOf};
-ghost use Rattle.layout.specs.Clock.{encodeClock};
-ghost use Rattle.exports.specs.Reply.{oneNumber, fitted, Replies};
+ghost use Rattle.replies.specs.Reply.{oneNumber, Replies};
 ghost use Rattle.exports.specs.Calls.{checkReply, containsReply, readReply, clockReply};
-use crate::answer::packed;
-use clocks::VClock;
 use dots::Member;
+use replies::packed;
+use replies::put;
 
 // Whether the bytes are a well-formed image. Refuses 1.
 #[no_mangle]
@@ -39,7 +36,7 @@ pub extern "C" fn gatelichen_read(image: &[u8], out: &mut [u8]) -> u64
     ensures { λ r. ⌜ Replies (readReply (now (image .entry)) (length (now (out .entry)))) (now (out .entry)) r (now (out .exit)) ⌝ }
 {
     let x = reading::read(image, out);
-    packed(x.no, x.count)
+    packed(x.no, x.count as u32)
 }
 
 // Writes the replica's clock; the lower half is its length. Refuses 1, 10.
@@ -49,27 +46,5 @@ pub extern "C" fn gatelichen_clock(image: &[u8], out: &mut [u8]) -> u64
 {
     let x = image::clock(image);
     let clock = x.clock;
-    put(x.no, bytes_of(clock), clock, out)
-}
-
-// How many bytes a clock takes.
-fn bytes_of(c: VClock) -> usize
-    ensures { λ r. ⌜ (r ≡ length (encodeClock (dotsOf c))) × (r < 4294967296) ⌝ }
-{
-    if c.len < 16 { 4 + 12 * c.len } else { 196 }
-}
-
-// A clock that was answered with a refusal number, written where that is 0. Refuses 10 where it doesn't fit.
-fn put(no: u32, low: usize, c: VClock, out: &mut [u8]) -> u64
-    requires { ⌜ low < 4294967296 ⌝ }
-    ensures { λ r. ⌜ Replies (fitted (length (now (out .entry))) no low (encodeClock (dotsOf c))) (now (out .entry)) r (now (out .exit)) ⌝ }
-{
-    if no != 0 {
-        return packed(no, 0);
-    }
-    if out.len() < bytes_of(c) {
-        return packed(10, 0);
-    }
-    fields::put_clock(out, 0, c);
-    packed(0, low)
+    put(x.no, replies::bytes_of(clock), clock, out)
 }

@@ -8,15 +8,15 @@ ghost use Rattle.clocks.specs.VClock.{vclock};
 ghost use Rattle.operations.specs.Calls.{applyCall, resetCall};
 ghost use Rattle.merging.specs.Merge.{mergeCall};
 ghost use Rattle.reading.specs.Calls.{emptyCall};
-ghost use Rattle.exports.specs.Reply.{Replies};
+ghost use Rattle.replies.specs.Reply.{Replies};
 ghost use Rattle.exports.specs.Calls.{replicaReply};
-ghost use Rattle.exports.specs.Lent.{clockLent};
-use crate::answer::packed;
-use crate::lent::clock_lent;
+ghost use Rattle.replies.specs.Lent.{clockLent};
 use clocks::VClock;
 use dots::Actor;
 use dots::Dot;
 use operations::Op;
+use replies::clock_lent;
+use replies::packed;
 use results::Written;
 
 // Writes the empty replica. Refuses 10.
@@ -79,5 +79,5 @@ fn written(w: Written) -> u64
     requires { ⌜ w .len < 4294967296 ⌝ }
     ensures { λ r. ⌜ r ≡ w .no * 4294967296 + w .len ⌝ }
 {
-    packed(w.no, w.len)
+    packed(w.no, w.len as u32)
 }

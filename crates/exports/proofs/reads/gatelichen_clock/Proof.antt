@@ -4,7 +4,7 @@ use Rattle.exports.proofs.reads.gatelichen_clock.Statement.{statement}
 use Rattle.exports.proofs.reads.gatelichen_clock.Tie as tie
 
 returns : tie.Need-returns
-returns c = clock-replies _ _ _ _ _ _ (c .before .before .before .before .before .before .clock .ensures) (c .before .before .before .before .bytes-of .ensures .0) (c .before .before .put .ensures)
+returns c = clock-replies _ _ _ _ _ _ (c .before .before .before .before .before .before .clock .ensures) (c .before .before .before .before .bytes-of .ensures) (c .before .before .put .ensures)
 
 pub gatelichen-clock-spec : {M : Type 1} → statement M
 gatelichen-clock-spec =

@@ -6,4 +6,4 @@ returns : tie.Need-returns
 returns c = c .packed .ensures
 
 pub written-spec : {M : Type 1} → statement M
-written-spec = tie.close (tie.spec (λ c κs. search needs) returns)
+written-spec = tie.close (tie.spec (λ c. search needs) (λ c κs. search needs) returns)

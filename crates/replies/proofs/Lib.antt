@@ -1,0 +1,3 @@
+pub mod Fitted
+pub mod Naming
+pub mod Clocks
