@@ -12,6 +12,7 @@ ghost use Rattle.replies.specs.Lent.{unfitClock, clockLent};
 use clocks::VClock;
 use dots::Actor;
 use dots::Dot;
+use fields::index;
 use fields::put_u32;
 use fields::put_u64;
 use operations::OpValidation;
@@ -40,17 +41,6 @@ pub fn clock_lent(bytes: &[u8]) -> VClock
     }
 }
 
-// A record with 17 actors.
-fn unfit_clock() -> VClock
-    ensures { λ r. ⌜ r ≡ unfitClock ⌝ }
-{
-    let dots = [Dot {
-        actor: Actor(0),
-        counter: 0,
-    }; 16];
-    VClock { dots, len: 17 }
-}
-
 // How many bytes a clock takes.
 pub fn bytes_of(c: VClock) -> u32
     ensures { λ r. ⌜ r ≡ length (encodeClock (dotsOf c)) ⌝ }
@@ -69,17 +59,11 @@ pub fn put(no: u32, low: u32, c: VClock, out: &mut [u8]) -> u64
     if no != 0 {
         return packed(no, 0);
     }
-    if out.len() < wide(bytes_of(c)) {
+    if out.len() < index(bytes_of(c)) {
         return packed(10, 0);
     }
     fields::put_clock(out, 0, c);
     packed(0, low)
-}
-
-fn wide(x: u32) -> usize
-    ensures { λ r. ⌜ r ≡ x ⌝ }
-{
-    x as usize
 }
 
 // Writes a double-spent dot and its two members, where 20 bytes fit.
@@ -125,4 +109,15 @@ pub fn put_gap(v: OpValidation, out: &mut [u8])
             put_u64(out, 8, g.end);
         }
     }
+}
+
+// A record with 17 actors.
+fn unfit_clock() -> VClock
+    ensures { λ r. ⌜ r ≡ unfitClock ⌝ }
+{
+    let dots = [Dot {
+        actor: Actor(0),
+        counter: 0,
+    }; 16];
+    VClock { dots, len: 17 }
 }

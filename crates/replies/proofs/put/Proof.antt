@@ -8,10 +8,10 @@ returns : tie.Need-returns
 returns c = fitted-refused _ _ _ _ _ (c .before .if1 .taken) (c .packed .ensures)
 
 returns-2 : tie.Need-returns-2
-returns-2 c = fitted-short _ _ _ _ _ (omega arith) (omega (arith, c .before .before .wide .ensures, c .before .before .before .bytes-of .ensures)) (c .packed2 .ensures)
+returns-2 c = fitted-short _ _ _ _ _ (omega arith) (omega (arith, c .before .before .index .ensures .0, c .before .before .before .bytes-of .ensures)) (c .packed2 .ensures)
 
 returns-3 : tie.Need-returns-3
-returns-3 c = fitted-put _ _ _ _ _ _ (omega arith) (omega (arith, c .before .before .before .before .before .before .wide .ensures, c .before .before .before .before .before .before .before .bytes-of .ensures)) (c .packed3 .ensures) (c .before .before .before .put-clock .ensures .is)
+returns-3 c = fitted-put _ _ _ _ _ _ (omega arith) (omega (arith, c .before .before .before .before .before .before .index .ensures .0, c .before .before .before .before .before .before .before .bytes-of .ensures)) (c .packed3 .ensures) (c .before .before .before .put-clock .ensures .is)
 
 pub put-spec : {M : Type 1} → statement M
 put-spec =
