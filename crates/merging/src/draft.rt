@@ -29,7 +29,7 @@ use image::Image;
 use results::Draft;
 
 // The counter of an actor in the clock of n dots at p; 0 where it has none.
-pub(crate) fn count_of(s: &[u8], p: usize, n: usize, actor: u32) -> u64
+fn count_of(s: &[u8], p: usize, n: usize, actor: u32) -> u64
     requires { ⌜ p + 12 * n < 1099511627776 ⌝ }
     ensures { λ r. ⌜ r ≡ count (dotsAt (now (s .entry)) p n) actor ⌝ }
 {

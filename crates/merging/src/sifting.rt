@@ -202,7 +202,7 @@ fn sift_row(
     }
 }
 
-// What stays of the m entries from p on, written from `at` on.
+// What stays of the m entries from p on, written from `at` on. Each entry has its own line of 16 numbers, or there is one for all.
 pub(crate) fn sift_rows(
     s: &[u8],
     p: usize,
