@@ -58,9 +58,30 @@ def files(*ends):
                 yield os.path.join(folder, name)
 
 
+def lent():
+    """What the texts name of libraries: it keeps its spelling."""
+    own = {d for d in os.listdir("crates")}
+    found = set()
+    for path in files(".antt"):
+        text = bare(open(path, encoding="utf-8").read())
+        behind = set()
+        for m in re.finditer(r"(?m)^\s*use ([^\s;{]+?)(?:\.\{([^}]*)\})?(?: as (\S+))?$", text):
+            steps = m[1].split(".")
+            if steps[0] == "Rattle" and len(steps) > 1 and steps[1] in own:
+                continue
+            for it in (m[2] or "").split(","):
+                found.update(it.split(" as ")[0].split())
+            if m[2] is None:
+                behind.add(m[3] or steps[-1])
+        for name in behind:
+            found.update(re.findall(r"(?<![\w.])" + re.escape(name) + r"\.([^\s(){}.;,]+)", text))
+    return found
+
+
 def declared():
     """What specs/ and the lemma files of proofs/ declare or bind, of the names that are spelled anew."""
     found = set()
+    library = lent()
     for path in files(".antt"):
         if os.path.basename(path) in ("Proof.antt", "Answers.antt", "Invariants.antt"):
             continue
@@ -75,7 +96,7 @@ def declared():
                 binds.update(re.findall(r"(?:[({;]|let )\s*([^\s(){};:]+) :", line))
                 binds.update(re.findall(r"[{;]\s*([^\s(){};:=]+) =", line))
         for word in TOKEN.findall(text):
-            if STAYS.match(word) or not re.search(r"\w", word) or snake(word) == word:
+            if word in library or STAYS.match(word) or not re.search(r"\w", word) or snake(word) == word:
                 continue
             if spec or word in binds:
                 found.add(word)

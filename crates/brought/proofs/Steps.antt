@@ -3,9 +3,9 @@ use Prim.Native.Nat.{ℕ, ◌+◌, ◌*◌, ◌≤◌, ◌<◌, min}
 use mathlib.Core.Path.{◌≡◌, sym, ◌∙◌}
 use mathlib.Core.List.{List}
 use native.Mathlib.Omega.{arith}
-use native.Mathlib.Numerals.{add_one}
-use lib.ListN.{length, take, drop, get_or, length_take, length_append, drop_of_length_le}
-use lib.Seq.{sets, slice_cons, length_take_le, take_all}
+use native.Mathlib.Numerals.{add-one}
+use lib.ListN.{length, take, drop, get_or, length-take, length-append, drop_of_length-le}
+use lib.Seq.{sets, slice-cons, length-take-le, take_all}
 use Rattle.tables.specs.Stores.{sets_append}
 use Rattle.tables.specs.Zip.{by_lt}
 use Rattle.clocks.specs.declared.VClock.{VClock}
@@ -23,11 +23,11 @@ use Rattle.brought.specs.Brought.{counted_members, wait_of}
 pub store_step : (s ms : List ℕ) (n p i : ℕ) → i < n → n ≤ length ms
     → sets (sets s p (le32 (get_or ms i 0))) (p + 4) (encode_members (drop (i + 1) (take n ms))) ≡ sets s p (encode_members (drop i (take n ms)))
 unfolding bytes_of
-store_step s ms n p i h hn = rw (add_one, slice_cons i n ms 0 h hn, sets_append, length_le32)
+store_step s ms n p i h hn = rw (add-one, slice-cons i n ms 0 h hn, sets_append, length_le32)
 
 pub store_end : (s ms : List ℕ) (n p i : ℕ) → n ≤ i → sets s p (encode_members (drop i (take n ms))) ≡ s
 unfolding bytes_of
-store_end s ms n p i h = let e : length (take n ms) ≤ i = simp length_take (omega arith) in rw (drop_of_length_le (take n ms) e)
+store_end s ms n p i h = let e : length (take n ms) ≤ i = simp length-take (omega arith) in rw (drop_of_length-le (take n ms) e)
 
 few_take : (ms : List ℕ) (len n : ℕ) → length ms ≡ 64 → n ≡ min len 64 → take n ms ≡ take len ms
 few_take ms len n h e = by_lt len 64
@@ -37,7 +37,7 @@ few_take ms len n h e = by_lt len 64
 module _ (m : Members) (n : ℕ) (h : length m.at ≡ 64) (e : n ≡ min m.len 64) where
   pub members_long : 4 + 4 * n ≡ length (counted_members m)
   unfolding counted_members
-  members_long = simp (length_append, length_le32, length_encode_members, length_take) (omega arith)
+  members_long = simp (length-append, length_le32, length_encode_members, length-take) (omega arith)
 
   pub members_none : (s : List ℕ) (at : ℕ) → length s ≤ at → Put s at (counted_members m) s (4 + 4 * n)
   members_none s at past = record { long = members_long; is = sym (sets_past s at (counted_members m) past) }
@@ -46,13 +46,13 @@ module _ (m : Members) (n : ℕ) (h : length m.at ≡ 64) (e : n ≡ min m.len 6
   unfolding counted_members
   members_done s t at w =
       let q = few_take m.at m.len n h e in
-      let l : length (take n m.at) ≡ n = length_take_le n m.at (omega arith) in
+      let l : length (take n m.at) ≡ n = length-take-le n m.at (omega arith) in
       record { long = members_long; is = w ∙ rw (← q, l, sets_append, length_le32) }
 
 pub wait_done : (s t u : List ℕ) (at r k : ℕ) (c : VClock) (m : Members) → Put s at (encode_clock (dots_of c)) t r → Put t (at + r) (counted_members m) u k → Put s at (encode_wait (wait_of c m)) u (r + k)
 unfolding encode_wait_in counted_members
 wait_done s t u at r k c m p q =
     record {
-      long = let a = p.long in let b = q.long in simp length_append (omega (arith, simp length_append at b));
+      long = let a = p.long in let b = q.long in simp length-append (omega (arith, simp length-append at b));
       is = q.is ∙ rw (p.is, p.long) (sym (sets_append s at (encode_clock (dots_of c)) (counted_members m)));
     }

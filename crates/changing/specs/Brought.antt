@@ -2,11 +2,11 @@
 use Prim.Native.Nat.{ℕ, suc, ◌≤◌, ◌<◌, max, compare, Ordering}
 use Rattle.std.specs.Prelude.{◌≡◌, refl, Bool, true, false, ◌&&◌, List, [], ◌∷◌, map, T, leb, ltb}
 use Rattle.std.proofs.Math.Path.{sym, ap}
-use Rattle.std.proofs.Common.{ap₂, ◌∙◌, lt→ltb, eq_eqb, ne_eqb, eqb_true, ltb_true, ltb_false, le_leb, le_ltb}
-use Rattle.std.proofs.Math.Bool.{not, and_true}
-use Rattle.std.proofs.lemmas.Bool.{false≢true, lt_leb}
+use Rattle.std.proofs.Common.{ap₂, ◌∙◌, lt→ltb, eq-eqb, ne_eqb, eqb-true, ltb-true, ltb-false, le-leb, le-ltb}
+use Rattle.std.proofs.Math.Bool.{not, and-true}
+use Rattle.std.proofs.lemmas.Bool.{false≢true, lt-leb}
 use native.Mathlib.Omega.{arith}
-use Rattle.std.proofs.Math.Dec.{eqb, eqb_zero_suc}
+use Rattle.std.proofs.Math.Dec.{eqb, eqb-zero-suc}
 use Rattle.tables.specs.Table.{Normal, Asc, All, Proper, get, pick, pick_both, has, find, hit, is_some, ext, join, normal_join, get_join, map_id}
 use Rattle.tables.specs.Zip.{get_zip, normal_zip}
 use Rattle.dots.specs.declared.Dot.{Dot}
@@ -61,12 +61,12 @@ unfolding keep_of
 above_line la lb u n = go (eqb u 0) refl (ltb lb u) refl (eqb u (suc n)) refl
   where
     go : (z : Bool) → eqb u 0 ≡ z → (k : Bool) → ltb lb u ≡ k → (e : Bool) → eqb u (suc n) ≡ e → eqb (pick z u (pick k u (pick (ltb la 0) 0 0))) (suc n) ≡ (e && not (leb (suc n) lb))
-    go true p k q true r = let a = eqb_true u 0 p in let b = eqb_true u (suc n) r in absurd (omega arith)
-    go false p true q true r = let a = ltb_true lb u q in let b = eqb_true u (suc n) r in r ∙ rw (lt_leb (suc n) lb (omega arith))
-    go false p false q true r = let a = ltb_false lb u q in let b = eqb_true u (suc n) r in rw (le_leb (suc n) lb (omega arith), pick_both {A = ℕ} (ltb la 0) 0) (eqb_zero_suc n)
+    go true p k q true r = let a = eqb-true u 0 p in let b = eqb-true u (suc n) r in absurd (omega arith)
+    go false p true q true r = let a = ltb-true lb u q in let b = eqb-true u (suc n) r in r ∙ rw (lt-leb (suc n) lb (omega arith))
+    go false p false q true r = let a = ltb-false lb u q in let b = eqb-true u (suc n) r in rw (le-leb (suc n) lb (omega arith), pick_both {A = ℕ} (ltb la 0) 0) (eqb-zero-suc n)
     go true p k q false r = r
     go false p true q false r = r
-    go false p false q false r = rw (pick_both {A = ℕ} (ltb la 0) 0) (eqb_zero_suc n)
+    go false p false q false r = rw (pick_both {A = ℕ} (ltb la 0) 0) (eqb-zero-suc n)
 
 -- a side with a clock and waiting removes only
 abbrev pub bare : Clock → List Wait → Replica
@@ -107,7 +107,7 @@ remove_kept c ms A nc s =
 
     line : (b l : Bool) → b ≡ l → (x n : ℕ) → (l && leb (suc n) x) ≡ leb (suc n) (max 0 (max (pick b x 0) 0))
     line true l e x n = let q : max 0 (max x 0) ≡ x = omega arith in rw (q, ← e)
-    line false l e x n = let q : max 0 (max 0 0) ≡ 0 = omega arith in rw (q, ← e) (sym (lt_leb (suc n) 0 (omega arith)))
+    line false l e x n = let q : max 0 (max 0 0) ≡ 0 = omega arith in rw (q, ← e) (sym (lt-leb (suc n) 0 (omega arith)))
 
 -- ---- add: "each listed member's clock takes the dot", as beside a side where each listed member has the dot alone, and which takes older ones
 
@@ -154,7 +154,7 @@ kept_number : (x k n : ℕ) → (0 < x → k < x) → eqb x (suc n) ≡ (eqb x (
 kept_number x k n free = go (eqb x (suc n)) refl
   where
     go : (b : Bool) → eqb x (suc n) ≡ b → b ≡ (b && not (leb (suc n) k))
-    go true e = let q = eqb_true x (suc n) e in let f = free (omega arith) in sym (rw (lt_leb (suc n) k (omega arith)))
+    go true e = let q = eqb-true x (suc n) e in let f = free (omega arith) in sym (rw (lt-leb (suc n) k (omega arith)))
     go false e = refl
 
 taken_number : (v k u N n : ℕ) → u ≤ v → (0 < u → k < u) → (t : Bool) → (t ≡ true → v < N)
@@ -162,20 +162,20 @@ taken_number : (v k u N n : ℕ) → u ≤ v → (0 < u → k < u) → (t : Bool
 unfolding keep_of
 taken_number v k u N n le free true new =
     let l = new refl in
-    rw (ne_eqb u N (λ z. omega arith), le_ltb N u (omega arith)) (go (ltb (max v k) N) refl)
+    rw (ne_eqb u N (λ z. omega arith), le-ltb N u (omega arith)) (go (ltb (max v k) N) refl)
   where
     go : (b : Bool) → ltb (max v k) N ≡ b → eqb (pick b N 0) (suc n) ≡ (eqb N (suc n) && not (leb (suc n) k))
-    go true e = let q = ltb_true (max v k) N e in kept_number N k n (λ z. omega arith)
-    go false e = let q = ltb_false (max v k) N e in let l = new refl in eqb_zero_suc n ∙ sym (gone (eqb N (suc n)) refl (omega arith))
+    go true e = let q = ltb-true (max v k) N e in kept_number N k n (λ z. omega arith)
+    go false e = let q = ltb-false (max v k) N e in let l = new refl in eqb-zero-suc n ∙ sym (gone (eqb N (suc n)) refl (omega arith))
       where
         gone : (b : Bool) → eqb N (suc n) ≡ b → N ≤ k → (b && not (leb (suc n) k)) ≡ false
-        gone true r q = let y = eqb_true N (suc n) r in rw (le_leb (suc n) k (omega arith))
+        gone true r q = let y = eqb-true N (suc n) r in rw (le-leb (suc n) k (omega arith))
         gone false r q = refl
-taken_number v k u N n le free false new = above_line (max v k) 0 u n ∙ rw (lt_leb (suc n) 0 (omega arith), and_true) (kept_number u k n free)
+taken_number v k u N n le free false new = above_line (max v k) 0 u n ∙ rw (lt-leb (suc n) 0 (omega arith), and-true) (kept_number u k n free)
 
 -- what the side has for an actor
 count_brought : (d : Dot) (b : Bool) (a : ℕ) → pick b (count (d ∷ []) a) 0 ≡ pick (b && eqb a (actor_of d)) d.counter 0
-count_brought d true a = by_eq a (actor_of d) (λ e. rw (e, eq_eqb (actor_of d) (actor_of d) refl) (count_same d [])) (λ e. rw (ne_eqb a (actor_of d) e) (count_other d [] a e))
+count_brought d true a = by_eq a (actor_of d) (λ e. rw (e, eq-eqb (actor_of d) (actor_of d) refl) (count_same d [])) (λ e. rw (ne_eqb a (actor_of d) e) (count_other d [] a e))
 count_brought d false a = refl
 
 module _ (d : Dot) (ms : List ℕ) (A : Replica) (s : T (sound A)) (new : covers A.clock (d ∷ []) ≡ false) where
@@ -203,7 +203,7 @@ module _ (d : Dot) (ms : List ℕ) (A : Replica) (s : T (sound A)) (new : covers
 
   brings_new : (m a : ℕ) → (listed ms m && eqb a (actor_of d)) ≡ true → count A.clock a < d.counter
   brings_new m a e =
-      let q : a ≡ actor_of d = eqb_true a (actor_of d) (and_true_r (listed ms m) e) in
+      let q : a ≡ actor_of d = eqb-true a (actor_of d) (and_true_r (listed ms m) e) in
       rw q (above A.clock d new)
     where
       and_true_r : (x : Bool) {y : Bool} → (x && y) ≡ true → y ≡ true

@@ -3,9 +3,9 @@
 use Prim.Native.Nat.{ℕ, zero, suc, ◌≤◌, ◌<◌, max, compare}
 use Rattle.std.specs.Prelude.{◌≡◌, ◌⊎◌, Bool, List, [], map, leb}
 use Rattle.std.proofs.Math.Path.{refl, sym, ap}
-use Rattle.std.proofs.Common.{◌∙◌, inl, inr, arith, eq_eqb, ne_eqb, eqb_true, le_leb, ltb_true, ltb_false}
-use Rattle.std.proofs.Math.Bool.{true, false, or_true}
-use Rattle.std.proofs.lemmas.Bool.{false≢true, eqb_false, lt_leb}
+use Rattle.std.proofs.Common.{◌∙◌, inl, inr, arith, eq-eqb, ne_eqb, eqb-true, le-leb, ltb-true, ltb-false}
+use Rattle.std.proofs.Math.Bool.{true, false, or-true}
+use Rattle.std.proofs.lemmas.Bool.{false≢true, eqb-false, lt-leb}
 use Rattle.std.proofs.Math.Option.{Option, none, some}
 use Rattle.std.proofs.Math.Dec.{eqb, ltb}
 use Rattle.tables.specs.Order.{nat_order}
@@ -48,16 +48,16 @@ pub record Side (u v k : ℕ) (K : ℕ → Bool) : Type 0 where
 
 killed_no : (u k n : ℕ) (K : ℕ → Bool) → ((n : ℕ) → K (suc n) ≡ leb (suc n) k) → u ≡ n → 0 < u → k < u → K n ≡ false
 killed_no u k zero K f e l h = absurd (omega arith)
-killed_no u k (suc n) K f e l h = f n ∙ lt_leb (suc n) k (omega arith)
+killed_no u k (suc n) K f e l h = f n ∙ lt-leb (suc n) k (omega arith)
 
 killed_yes : (u k : ℕ) (K : ℕ → Bool) → ((n : ℕ) → K (suc n) ≡ leb (suc n) k) → 0 < u → u ≤ k → K u ≡ true
 killed_yes zero k K f l h = absurd (omega arith)
-killed_yes (suc n) k K f l h = f n ∙ le_leb (suc n) k h
+killed_yes (suc n) k K f l h = f n ∙ le-leb (suc n) k h
 
 -- a dot that one side alone holds
 dead_first : (sA sB kA kB : Bool) → (sB ≡ true) ⊎ (kB ≡ true) → lives true false sA sB kA kB ≡ false
 dead_first sA true kA kB h = refl
-dead_first sA false kA true h = rw or_true
+dead_first sA false kA true h = rw or-true
 dead_first sA false kA false (inl e) = absurd (false≢true e)
 dead_first sA false kA false (inr e) = absurd (false≢true e)
 
@@ -78,25 +78,25 @@ module _ (u w va vb ka kb : ℕ) (KA KB : ℕ → Bool) (p : Side u va ka KA) (q
       go zero z = pick_all (L u) (L w) z (sym e ∙ z) ∙ sym z
       go (suc n) z =
           let l : 0 < u = omega arith in
-          rw (eq_eqb u u refl, eq_eqb w u (sym e), killed_no u ka u KA p.number refl l (p.free l), killed_no w kb u KB q.number (sym e) (omega arith) (q.free (omega arith)))
+          rw (eq-eqb u u refl, eq-eqb w u (sym e), killed_no u ka u KA p.number refl l (p.free l), killed_no w kb u KB q.number (sym e) (omega arith) (q.free (omega arith)))
 
   first_lives : (u ≡ w → ⊥) → max vb kb < u → L u ≡ true
   first_lives d l =
-      rw (eq_eqb u u refl, ne_eqb w u (λ z. d (sym z)), lt_leb u vb (omega arith), killed_no u ka u KA p.number refl (omega arith) (p.free (omega arith)), killed_no u kb u KB q.number refl (omega arith) (omega arith))
+      rw (eq-eqb u u refl, ne_eqb w u (λ z. d (sym z)), lt-leb u vb (omega arith), killed_no u ka u KA p.number refl (omega arith) (p.free (omega arith)), killed_no u kb u KB q.number refl (omega arith) (omega arith))
 
   first_dies : (u ≡ w → ⊥) → u ≤ max vb kb → L u ≡ false
   first_dies d l =
-      rw (eq_eqb u u refl, ne_eqb w u (λ z. d (sym z)))
-      (dead_first (leb u va) (leb u vb) (KA u) (KB u) (by_lt vb u (λ h. inr (killed_yes u kb KB q.number (omega arith) (omega arith))) (λ h. inl (le_leb u vb h))))
+      rw (eq-eqb u u refl, ne_eqb w u (λ z. d (sym z)))
+      (dead_first (leb u va) (leb u vb) (KA u) (KB u) (by_lt vb u (λ h. inr (killed_yes u kb KB q.number (omega arith) (omega arith))) (λ h. inl (le-leb u vb h))))
 
   second_lives : (u ≡ w → ⊥) → max va ka < w → L w ≡ true
   second_lives d l =
-      rw (ne_eqb u w d, eq_eqb w w refl, lt_leb w va (omega arith), killed_no w ka w KA p.number refl (omega arith) (omega arith), killed_no w kb w KB q.number refl (omega arith) (q.free (omega arith)))
+      rw (ne_eqb u w d, eq-eqb w w refl, lt-leb w va (omega arith), killed_no w ka w KA p.number refl (omega arith) (omega arith), killed_no w kb w KB q.number refl (omega arith) (q.free (omega arith)))
 
   second_dies : (u ≡ w → ⊥) → w ≤ max va ka → L w ≡ false
   second_dies d l =
-      rw (ne_eqb u w d, eq_eqb w w refl)
-      (dead_second (leb w va) (leb w vb) (KA w) (KB w) (by_lt va w (λ h. inr (killed_yes w ka KA p.number (omega arith) (omega arith))) (λ h. inl (le_leb w va h))))
+      rw (ne_eqb u w d, eq-eqb w w refl)
+      (dead_second (leb w va) (leb w vb) (KA w) (KB w) (by_lt va w (λ h. inr (killed_yes w ka KA p.number (omega arith) (omega arith))) (λ h. inl (le-leb w va h))))
 
   pub keep_lives : keep_of (max va ka) (max vb kb) u w ≡ pick (L u) u (pick (L w) w 0)
   unfolding keep_of
@@ -104,10 +104,10 @@ module _ (u w va vb ka kb : ℕ) (KA KB : ℕ → Bool) (p : Side u va ka KA) (q
     where
       go : (e : Bool) → eqb u w ≡ e → (f : Bool) → ltb (max vb kb) u ≡ f → (g : Bool) → ltb (max va ka) w ≡ g
           → pick e u (pick f u (pick g w 0)) ≡ pick (L u) u (pick (L w) w 0)
-      go true e f ef g eg = sym (same_lives (eqb_true u w e))
-      go false e true ef g eg = rw (first_lives (eqb_false u w e) (ltb_true (max vb kb) u ef))
-      go false e false ef true eg = rw (first_dies (eqb_false u w e) (ltb_false (max vb kb) u ef), second_lives (eqb_false u w e) (ltb_true (max va ka) w eg))
-      go false e false ef false eg = rw (first_dies (eqb_false u w e) (ltb_false (max vb kb) u ef), second_dies (eqb_false u w e) (ltb_false (max va ka) w eg))
+      go true e f ef g eg = sym (same_lives (eqb-true u w e))
+      go false e true ef g eg = rw (first_lives (eqb-false u w e) (ltb-true (max vb kb) u ef))
+      go false e false ef true eg = rw (first_dies (eqb-false u w e) (ltb-false (max vb kb) u ef), second_lives (eqb-false u w e) (ltb-true (max va ka) w eg))
+      go false e false ef false eg = rw (first_dies (eqb-false u w e) (ltb-false (max vb kb) u ef), second_dies (eqb-false u w e) (ltb-false (max va ka) w eg))
 
 -- ---- of two well-formed replicas
 
@@ -122,7 +122,7 @@ side A h m a = record {
     go : (u : ℕ) → count (entry A m) a ≡ u → 0 < u → kills_of A.waiting m a < u
     go zero e l = absurd (omega arith)
     go (suc n) e l = by_lt (kills_of A.waiting m a) (suc n) (λ k. k)
-        (λ k. absurd (h.free m a n (rw (eq_eqb (count (entry A m) a) (suc n) e) tt) (rw (killed_number A m a n, le_leb (suc n) (kills_of A.waiting m a) k) tt)))
+        (λ k. absurd (h.free m a n (rw (eq-eqb (count (entry A m) a) (suc n) e) tt) (rw (killed_number A m a n, le-leb (suc n) (kills_of A.waiting m a) k) tt)))
 
 pub keep_live : (A B : Replica) → Fine A → Fine B → (m a : ℕ) → keep_of (line_of A m a) (line_of B m a) (count (entry A m) a) (count (entry B m) a) ≡ live_at A B m a
 unfolding line_of live_at live stay holds seen

@@ -4,7 +4,7 @@ use Prim.Native.Nat.{ℕ, Ordering}
 use Rattle.std.specs.Prelude.{◌≡◌, Bool, true, false, ◌||◌}
 use Rattle.std.proofs.Math.Path.{refl, ap}
 use Rattle.std.proofs.Common.{sym, ◌∙◌}
-use Rattle.std.proofs.Math.Bool.{or_false}
+use Rattle.std.proofs.Math.Bool.{or-false}
 use Rattle.std.proofs.Math.Option.{Option, none, some}
 use mathlib.Core.List.{List, [], ◌∷◌}
 use Rattle.tables.specs.Table.{get, Normal, All, pick, cons?, ext, normal_join, get_join}
@@ -55,7 +55,7 @@ no_members = record { asc = tt; proper = tt }
 pub sets_left : (x : List ℕ) → Normal member_sets x → both_sets x [] ≡ x
 unfolding both_sets zip
 sets_left x h = ext member_sets (both_sets x []) x (normal_join member_sets (λ m. get member_sets x m || false) x [] no_members) h
-    (λ m. get_join member_sets (λ m. get member_sets x m || false) x [] (λ m e f. rw e) m ∙ or_false (get member_sets x m))
+    (λ m. get_join member_sets (λ m. get member_sets x m || false) x [] (λ m e f. rw e) m ∙ or-false (get member_sets x m))
 
 pub sets_right : (y : List ℕ) → Normal member_sets y → both_sets [] y ≡ y
 unfolding both_sets zip

@@ -1,9 +1,9 @@
 -- What an add, a remove and a reset leave of the waiting removes, as merging's loop over two lists of them does it.
 use Rattle.std.specs.Prelude.{ℕ, ◌≡◌, refl, ◌≢◌, Bool, true, false, List, [], ◌∷◌, T}
 use Rattle.std.proofs.Common.{sym, ap, ◌∙◌, subst, arith, ltb→lt}
-use Rattle.std.proofs.lemmas.Bool.{false≢true, lt_leb}
+use Rattle.std.proofs.lemmas.Bool.{false≢true, lt-leb}
 use Rattle.std.proofs.Math.Option.{Option, none, some}
-use Rattle.std.proofs.Math.Dec.{eqb_zero_suc}
+use Rattle.std.proofs.Math.Dec.{eqb-zero-suc}
 use Rattle.tables.specs.Table.{Normal, All, get, pick, pick_both, is_some, row_at, key_at, by_row, all_at, ext}
 use Rattle.tables.specs.Zip.{get_zip, normal_zip}
 use Rattle.dots.specs.Dot.{clocks}
@@ -62,7 +62,7 @@ covers_empty v k z = rw z
 uncovers : (k : Clock) → Normal clocks k → k ≢ [] → covers [] k ≡ false
 unfolding covers
 uncovers [] n ne = absurd (ne refl)
-uncovers (d ∷ c) n ne = rw (lt_leb d.counter 0 (ltb→lt 0 d.counter (dot_proper d n.proper.0)))
+uncovers (d ∷ c) n ne = rw (lt-leb d.counter 0 (ltb→lt 0 d.counter (dot_proper d n.proper.0)))
 
 joined_each : (xs ys : List Wait) → Normal waits ys → ((k : Clock) → Each (GoodWait k) (get waits xs k)) → ((k : Clock) → Each (GoodWait k) (get waits ys k)) → join_waits xs ys ≡ kept_waits [] xs ys
 joined_each xs ys n f g = ext waits (join_waits xs ys) (kept_waits [] xs ys) (joined_normal xs ys n) (kept_normal [] xs ys n)
@@ -107,7 +107,7 @@ alone ws n h = record {
   waiting_ok = n;
   within = λ m a. omega arith;
   late = good_at ws h;
-  free = λ m a k t u. subst T (eqb_zero_suc k) t;
+  free = λ m a k t u. subst T (eqb-zero-suc k) t;
 }
 
 reset_fine : (c : Clock) (ws : List Wait) → Normal waits ws → All Good ws → Fine (reset c (record { clock = []; entries = []; waiting = ws }))

@@ -5,7 +5,7 @@ use mathlib.Core.Bool.{true}
 use mathlib.Core.List.{List, ◌∷◌, map}
 use native.Mathlib.Omega.{arith}
 use lib.ListN.{length, get_or, take, drop, replicate}
-use lib.Seq.{sets, sets_eq, length_sets, take_at, get_or-take}
+use lib.Seq.{sets, sets-eq, length-sets, take_at, get_or-take}
 use Rattle.clocks.specs.VClock.{vclock}
 use Rattle.fields.specs.Read.{clock_read}
 use Rattle.layout.specs.Lists.{list_at, starts_at}
@@ -33,7 +33,7 @@ list_places here end s p zero = refl
 list_places {R} here end s p (suc n) = ap (λ (l : List R). here s p ∷ l) (list_places here end s (end s p) n)
 
 take_sets : (l ps : List ℕ) (n : ℕ) → length ps ≡ n → n ≤ length l → take n (sets l 0 ps) ≡ ps
-take_sets l ps n e h = rw (sets_eq ps l 0 (omega arith)) (take_at ps (drop (0 + length ps) l) n e)
+take_sets l ps n e h = rw (sets-eq ps l 0 (omega arith)) (take_at ps (drop (0 + length ps) l) n e)
 
 pub known : (s : List ℕ) (x : Image) → x ≡ check_image s → x.good ≡ true → Known s x
 unfolding image_of_bytes image_in
@@ -50,7 +50,7 @@ known s x c g =
       is_good = t.0;
       clock_is = ap (λ (y : Image). y.clock) e;
       few = omega (arith, h.few_members);
-      long = ap (λ (y : Image). length y.places) e ∙ length_sets (replicate 64 0) 0 ps;
+      long = ap (λ (y : Image). length y.places) e ∙ length-sets (replicate 64 0) 0 ps;
       rows_are = ap (map (row_at s)) w ∙ list_places row_at row_end s (entries_start s) n;
       clock_reads = λ i l. let q : get_or x.places i 0 ≡ get_or ps i 0 = sym (get_or-take x.entries x.places i 0 l) ∙ ap (λ (y : List ℕ). get_or y i 0) w in
           rw q (read_good s (get_or ps i 0 + 4) (place_good s (entries_start s) 0 n i h.rows_good (omega arith)));

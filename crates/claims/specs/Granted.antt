@@ -2,9 +2,9 @@
 use Prim.Native.Nat.{ℕ, zero, suc, ◌≤◌}
 use Rattle.std.specs.Prelude.{◌≡◌, refl, false, T, eqb, ltb, length, take}
 use Rattle.std.proofs.Math.Path.{ap, ap₂}
-use Rattle.std.proofs.Common.{◌∙◌, arith, le_ltb}
+use Rattle.std.proofs.Common.{◌∙◌, arith, le-ltb}
 use mathlib.Core.List.{List, [], ◌∷◌, ◌++◌}
-use Rattle.std.proofs.Math.Dec.{eqb_suc_zero}
+use Rattle.std.proofs.Math.Dec.{eqb-suc-zero}
 use Rattle.tables.specs.Table.{pick}
 use Rattle.tables.specs.Refusal.{Refusal, ◌if◌, first_of, NoneApplies, first_append}
 use Rattle.replica.specs.Replica.{Replica}
@@ -66,7 +66,7 @@ finish l A room h = first_append (limits_of l A) (10 if ltb room (length (encode
   where
     go : (n : ℕ) → broken l A ≡ n → pick (eqb n 0) (pick (ltb room (length (encode A))) 10 0) n ≡ n
     go zero e = rw (h e)
-    go (suc n) e = rw (eqb_suc_zero n)
+    go (suc n) e = rw (eqb-suc-zero n)
 
 -- the image of a well-formed replica whose numbers fit
 well_formed_encode : (A : Replica) → T (well_formed full A) → Fits A → WellFormed (encode A)
@@ -109,7 +109,7 @@ module _ {c : Call} {a : List ℕ} {e : Event} (does : Does c a e) (bytes : Byte
     -- where the arguments pass and the output has room for any image, the limits alone decide: in hand is the image of the result, or one of 6 to 9
     module _ (passed : NoneApplies c.refusals) (roomy : Roomy before) where
       room : broken full M ≡ 0 → ltb (length before) (length (encode M)) ≡ false
-      room b = le_ltb (length before) (length (encode M)) (let h = at_most M (result_formed passed b).0 in omega arith)
+      room b = le-ltb (length before) (length (encode M)) (let h = at_most M (result_formed passed b).0 in omega arith)
 
       number : number_of full c (length before) ≡ broken full M
       unfolding number_of
@@ -124,4 +124,4 @@ module _ {c : Call} {a : List ℕ} {e : Event} (does : Does c a e) (bytes : Byte
         where
           go : (n : ℕ) → r.no ≡ n → image r after ≡ pick (eqb n 0) (encode M) []
           go zero g = written g
-          go (suc n) g = rw (eqb_suc_zero n, (refused_keeps full c before r after kept (λ z. omega arith)).1)
+          go (suc n) g = rw (eqb-suc-zero n, (refused_keeps full c before r after kept (λ z. omega arith)).1)

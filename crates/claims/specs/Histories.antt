@@ -1,6 +1,6 @@
 -- Histories of calls on images, and what is taken down in them.
 use Rattle.std.specs.Prelude.{ℕ, ◌≤◌, ◌<◌, ◌≡◌, refl, Bool, true, false, ◌||◌, List, [], ◌∷◌, T, eqb}
-use Rattle.std.proofs.Common.{sym, ◌∙◌, eqb_true}
+use Rattle.std.proofs.Common.{sym, ◌∙◌, eqb-true}
 use Rattle.std.proofs.Math.Path.{ap}
 use Rattle.std.proofs.lemmas.Bool.{false≢true}
 use Rattle.tables.specs.Truth.{and_i}
@@ -62,7 +62,7 @@ ran {a} {z} w (goes {before = before} {after = after} {q = q} {later = later} {r
   where
     go : (b : Bool) → eqb r.no 0 ≡ b → (WellFormed (pick b (image r after) a) → Ran (pick b (image r after) a) later z) → Ran a (q ∷ later) z
     go true e rest =
-        let g = eqb_true r.no 0 e in
+        let g = eqb-true r.no 0 e in
         let t = rest (granted_well_formed (does q a l) w.bytes kept g) in
         record {
           granted = event_of q ∷ t.granted;

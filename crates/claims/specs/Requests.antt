@@ -1,6 +1,6 @@
 -- The calls that write a replica, as data: what is asked of an image, the call that answers it, and what the rules of document 01 do.
 use Rattle.std.specs.Prelude.{ℕ, ◌≡◌, refl, Bool, true, false, not, ◌&&◌, List, [], ◌∷◌, T, leb, length}
-use Rattle.std.proofs.Common.{sym, arith, le→leb, length_take}
+use Rattle.std.proofs.Common.{sym, arith, le→leb, length-take}
 use Rattle.std.proofs.lemmas.Bool.{false≢true}
 use Rattle.tables.specs.Truth.{and_l, and_i}
 use Rattle.tables.specs.Ascending.{before, ascending}
@@ -76,7 +76,7 @@ fit_clock : (c : VClock) → T (normalised c) → T (normal (dots_of c) && leb (
 fit_clock c t =
     let e = true_from (normalised c) t in
     let k = few c e in
-    and_i (normal (dots_of c)) (leb (length (dots_of c)) 16) (normal_to (dots_of c) (dots_normal c e)) (le→leb (length (dots_of c)) 16 (rw length_take (omega arith)))
+    and_i (normal (dots_of c)) (leb (length (dots_of c)) 16) (normal_to (dots_of c) (dots_normal c e)) (le→leb (length (dots_of c)) 16 (rw length-take (omega arith)))
 
 pub does : (q : Request) (a : List ℕ) → Lent q → Does (call_on q a) a (event_of q)
 unfolding apply_call reset_call merge_call unfit_arguments operated step apply fits fair

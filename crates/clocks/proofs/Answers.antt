@@ -5,9 +5,9 @@ use mathlib.Core.Bool.{Bool, true, false, not}
 use mathlib.Core.Option.{Option, none, some}
 use mathlib.Core.List.{List, [], ◌∷◌}
 use native.Mathlib.Omega.{arith}
-use lib.Dec.{eqb, eqb_suc_zero, lt→ltb}
-use lib.ListN.{length, take, get_or, length_take}
-use borrow.Author.Tests.{le_ltb, lt_ltb}
+use lib.Dec.{eqb, eqb-suc-zero, lt→ltb}
+use lib.ListN.{length, take, get_or, length-take}
+use borrow.Author.Tests.{le-ltb, lt-ltb}
 use Rattle.tables.specs.Table.{Normal, every, cons?, pick, pick_both}
 use Rattle.tables.specs.Refusal.{first_of}
 use Rattle.dots.specs.declared.Dot.{Dot}
@@ -35,7 +35,7 @@ pub none_there : (l : List Dot) (n : ℕ) → n ≤ length l → eqb n 0 ≡ not
 unfolding filled
 none_there l zero h = refl
 none_there [] (suc n) h = absurd (omega arith)
-none_there (d ∷ l) (suc n) h = eqb_suc_zero n
+none_there (d ∷ l) (suc n) h = eqb-suc-zero n
 
 pub dot_there : (l : List Dot) (n i : ℕ) → i < n → n ≤ length l → dot_at (take n l) i ≡ some (get_or l i no_dot)
 dot_there l zero i h f = absurd (omega arith)
@@ -83,8 +83,8 @@ module _ (r : Rule) (op : Clock → Clock → Clock) (is : (x y : Clock) → Nor
           let z = is (dots_of a) (dots_of b) na nb in
           let s = short (dots_of a) (dots_of b) na nb in
           let f = few a n.0 in
-          let l : length (dots_of a) ≤ 16 = simp length_take (omega arith) in
-          simp (e, z, le_ltb 16 (length (op (dots_of a) (dots_of b))) (omega arith))
+          let l : length (dots_of a) ≤ 16 = simp length-take (omega arith) in
+          simp (e, z, le-ltb 16 (length (op (dots_of a) (dots_of b))) (omega arith))
       go false e = simp e
 
 pub glb-join : (a b : VClock) → join_call Smaller a b ≡ glb_call a b
@@ -154,11 +154,11 @@ module _ (r : Rule) (a b : VClock) where
 
     pub crowded-join : 16 < k.len → clock_answer 6 [] ≡ join_call r a b
     unfolding join_call clock_answer first_of
-    crowded-join h = let l = long in simp (e, lt_ltb 16 (length (zipped r (dots_of a) (dots_of b))) (omega arith))
+    crowded-join h = let l = long in simp (e, lt-ltb 16 (length (zipped r (dots_of a) (dots_of b))) (omega arith))
 
     pub granted-join : k.len ≤ 16 → ◌≡◌ {A = ClockAnswer} (record { no = 0; clock = k }) (join_call r a b)
     unfolding join_call clock_answer first_of
-    granted-join h = let l = long in simp (e, le_ltb 16 (length (zipped r (dots_of a) (dots_of b))) (omega arith)) (ap (λ (v : VClock). record { no = 0; clock = v }) is)
+    granted-join h = let l = long in simp (e, le-ltb 16 (length (zipped r (dots_of a) (dots_of b))) (omega arith)) (ap (λ (v : VClock). record { no = 0; clock = v }) is)
 
 -- the clock of one dot
 pub from_nothing : (d : Dot) → d.counter ≡ 0 → applied [] d ≡ []
@@ -171,8 +171,8 @@ from_one d n = applied_empty d ∙ ap (λ (o : Option Dot). cons? o []) (proper_
 
 pub no_gap : (c : Clock) (d : Dot) → d.counter ≤ count c (actor_of d) + 1 → gap c d ≡ none
 unfolding gap
-no_gap c d h = rw (le_ltb (count c (actor_of d) + 1) d.counter h)
+no_gap c d h = rw (le-ltb (count c (actor_of d) + 1) d.counter h)
 
 pub a_gap : (c : Clock) (d : Dot) → count c (actor_of d) + 1 < d.counter → gap c d ≡ some (record { actor = d.actor; start = count c (actor_of d) + 1; end = d.counter })
 unfolding gap
-a_gap c d h = rw (lt_ltb (count c (actor_of d) + 1) d.counter h)
+a_gap c d h = rw (lt-ltb (count c (actor_of d) + 1) d.counter h)

@@ -15,6 +15,6 @@ but {b} e t = sym e ∙ twice b ∙ ap not t
     twice true = refl
     twice false = refl
 
-pub and_true : (b : Bool) → (b && true) ≡ b
-and_true true = refl
-and_true false = refl
+pub and-true : (b : Bool) → (b && true) ≡ b
+and-true true = refl
+and-true false = refl

@@ -1,7 +1,7 @@
 -- What the promises of the calls on clocks give: one answer each, normalised results, the counters of each result, the laws of merging,
 -- what a comparison says, and the marked cases 1 to 4.
 use Rattle.std.specs.Prelude.{ℕ, zero, suc, ◌≤◌, max, min, ◌≡◌, refl, Bool, true, false, not, eqb, length}
-use Rattle.std.proofs.Common.{sym, ◌∙◌, length_take, ltb_false, le_ltb, ne_eqb}
+use Rattle.std.proofs.Common.{sym, ◌∙◌, length-take, ltb-false, le-ltb, ne_eqb}
 use Rattle.std.proofs.Math.Path.{ap}
 use Rattle.std.proofs.lemmas.Bool.{false≢true}
 use Rattle.std.proofs.Math.Option.{Option, none, some}
@@ -87,7 +87,7 @@ not_false true e = refl
 not_false false e = sym e
 
 fits : (c : VClock) → normalised c ≡ true → length (dots_of c) ≤ 16
-fits c n = let f = few c n in simp length_take (omega arith)
+fits c n = let f = few c n in simp length-take (omega arith)
 
 -- what the number 0 says of two clocks, and of a result that is judged
 module _ (a b : VClock) where
@@ -106,7 +106,7 @@ module _ (a b : VClock) where
       let m = merged (dots_of a) (dots_of b) in
       let rs = unfit (a ∷ b ∷ []) ∷ crowded m ∷ [] in
       let g = (done_right rs (omega arith, (omega arith, tt))).0 e in
-      granted_as (first_of rs) m e (merged_normal (dots_of a) (dots_of b) (dots_normal b (merge_fit e).1)) (ltb_false 16 (length m) g.1.0)
+      granted_as (first_of rs) m e (merged_normal (dots_of a) (dots_of b) (dots_normal b (merge_fit e).1)) (ltb-false 16 (length m) g.1.0)
 
   -- what only drops dots of the first always fits
   dropping : (op : Clock → Clock → Clock) → (Normal clocks (dots_of a) → Normal clocks (dots_of b) → Normal clocks (op (dots_of a) (dots_of b)) × (length (op (dots_of a) (dots_of b)) ≤ length (dots_of a)))
@@ -156,7 +156,7 @@ apply_granted c d e =
     let m = applied (dots_of c) d in
     let rs = unfit (c ∷ []) ∷ crowded m ∷ [] in
     let g = (done_right rs (omega arith, (omega arith, tt))).0 e in
-    granted_as (first_of rs) m e (applied_normal (dots_of c) d) (ltb_false 16 (length m) g.1.0)
+    granted_as (first_of rs) m e (applied_normal (dots_of c) d) (ltb-false 16 (length m) g.1.0)
 
 pub apply_counts : (c : VClock) (d : Dot) → (apply_call c d).no ≡ 0 → (x : ℕ) → count (dots_of (apply_call c d).clock) x ≡ max (count (dots_of c) x) (count (d ∷ []) x)
 apply_counts c d e x = ap (λ (k : Clock). count k x) (apply_granted c d e).dots_are ∙ applied_count (dots_of c) d x
@@ -167,7 +167,7 @@ pub apply_covered : (c : VClock) (d : Dot) → length c.dots ≡ 16 → normalis
 unfolding apply_call clock_answer first_of
 apply_covered c d long n h =
     let l = fits c n in
-    simp (n, applied_covered (dots_of c) d (dots_normal c n) h, le_ltb 16 (length (dots_of c)) l) (ap (λ (v : VClock). record { no = 0; clock = v }) (sym (vclock_dots c long n)))
+    simp (n, applied_covered (dots_of c) d (dots_normal c n) h, le-ltb 16 (length (dots_of c)) l) (ap (λ (v : VClock). record { no = 0; clock = v }) (sym (vclock_dots c long n)))
 
 -- ---- merging
 
@@ -186,7 +186,7 @@ pub merge_self : (a : VClock) → length a.dots ≡ 16 → normalised a ≡ true
 unfolding merge_call clock_answer first_of
 merge_self a long n =
     let l = fits a n in
-    simp (n, merged_self (dots_of a) (dots_normal a n), le_ltb 16 (length (dots_of a)) l) (ap (λ (v : VClock). record { no = 0; clock = v }) (sym (vclock_dots a long n)))
+    simp (n, merged_self (dots_of a) (dots_normal a n), le-ltb 16 (length (dots_of a)) l) (ap (λ (v : VClock). record { no = 0; clock = v }) (sym (vclock_dots a long n)))
 
 -- the merge of two normalised clocks, by their dots
 merge_as : (a b : VClock) (x y : Clock) → normalised a ≡ true → normalised b ≡ true → dots_of a ≡ x → dots_of b ≡ y → merge_call a b ≡ clock_answer (first_of (crowded (merged x y) ∷ [])) (merged x y)

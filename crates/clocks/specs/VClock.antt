@@ -1,8 +1,8 @@
 -- A clock as a record of 16 places, and as the list of its dots.
 use Rattle.std.specs.Prelude.{ℕ, zero, suc, ◌+◌, ◌-◌, ◌≤◌, ◌≡◌, refl, Bool, true, ◌&&◌, List, [], ◌∷◌, ◌++◌, leb, eqb, length, take, drop, replicate}
-use Rattle.std.proofs.Common.{sym, ap, ◌∙◌, arith, zero_add, take_append_drop, length_take, length_drop, take_at, drop_at}
-use Rattle.std.proofs.lemmas.List.Edits.{sets, sets_eq}
-use borrow.Author.Tests.{leb_true, le_leb, eqb_true}
+use Rattle.std.proofs.Common.{sym, ap, ◌∙◌, arith, zero-add, take-append-drop, length-take, length-drop, take_at, drop_at}
+use Rattle.std.proofs.lemmas.List.Edits.{sets, sets-eq}
+use borrow.Author.Tests.{leb-true, le-leb, eqb-true}
 use Rattle.tables.specs.Table.{Normal, every}
 use Rattle.dots.specs.declared.Dot.{Dot}
 use Rattle.dots.specs.Dot.{actor_of, clocks, no_dot}
@@ -32,18 +32,18 @@ len_vclock l = refl
 
 places : (l : Clock) → length l ≤ 16 → (vclock l).dots ≡ l ++ drop (length l) (replicate 16 no_dot)
 unfolding vclock
-places l h = rw (sets_eq l (replicate 16 no_dot) 0 (omega arith), zero_add)
+places l h = rw (sets-eq l (replicate 16 no_dot) 0 (omega arith), zero-add)
 
 pub dots_vclock : (l : Clock) → length l ≤ 16 → dots_of (vclock l) ≡ l
 unfolding vclock
-dots_vclock l h = rw (sets_eq l (replicate 16 no_dot) 0 (omega arith)) (take_at l (drop (0 + length l) (replicate 16 no_dot)) (length l) refl)
+dots_vclock l h = rw (sets-eq l (replicate 16 no_dot) 0 (omega arith)) (take_at l (drop (0 + length l) (replicate 16 no_dot)) (length l) refl)
 
 -- ---- what normalised says
 
 module _ (c : VClock) (e : normalised c ≡ true) where
   pub few : c.len ≤ 16
   unfolding normalised
-  few = leb_true c.len 16 (both_left (leb c.len 16) (normal (dots_of c) && every unused (drop c.len c.dots)) e)
+  few = leb-true c.len 16 (both_left (leb c.len 16) (normal (dots_of c) && every unused (drop c.len c.dots)) e)
 
   later : (normal (dots_of c) && every unused (drop c.len c.dots)) ≡ true
   unfolding normalised
@@ -66,8 +66,8 @@ unused_are [] e = refl
 unused_are (d ∷ l) e =
     let u = eqb (actor_of d) 0 && eqb d.counter 0 in
     let p = both_left u (every unused l) e in
-    let a : actor_of d ≡ 0 = eqb_true (actor_of d) 0 (both_left (eqb (actor_of d) 0) (eqb d.counter 0) p) in
-    let k : d.counter ≡ 0 = eqb_true d.counter 0 (both_right (eqb (actor_of d) 0) (eqb d.counter 0) p) in
+    let a : actor_of d ≡ 0 = eqb-true (actor_of d) 0 (both_left (eqb (actor_of d) 0) (eqb d.counter 0) p) in
+    let k : d.counter ≡ 0 = eqb-true d.counter 0 (both_right (eqb (actor_of d) 0) (eqb d.counter 0) p) in
     let r = unused_are l (both_right u (every unused l) e) in
     λ i. record { actor = record { 0 = a i }; counter = k i } ∷ r i
 
@@ -84,11 +84,11 @@ are_unused (suc n) = are_unused n
 pub vclock_dots : (c : VClock) → length c.dots ≡ 16 → normalised c ≡ true → c ≡ vclock (dots_of c)
 vclock_dots c long e =
     let h = few c e in
-    let n : length (dots_of c) ≡ c.len = simp length_take (omega arith) in
-    let m : length (drop c.len c.dots) ≡ 16 - length (dots_of c) = simp length_drop (omega arith) in
+    let n : length (dots_of c) ≡ c.len = simp length-take (omega arith) in
+    let m : length (drop c.len c.dots) ≡ 16 - length (dots_of c) = simp length-drop (omega arith) in
     let z : drop c.len c.dots ≡ drop (length (dots_of c)) (replicate 16 no_dot) =
     unused_are (drop c.len c.dots) (clear c e) ∙ ap (λ (k : ℕ). replicate k no_dot) m ∙ sym (drop_replicate (length (dots_of c)) 16 no_dot) in
-    let p : c.dots ≡ (vclock (dots_of c)).dots = sym (take_append_drop c.len c.dots) ∙ ap (λ (r : List Dot). dots_of c ++ r) z ∙ sym (places (dots_of c) (omega arith)) in
+    let p : c.dots ≡ (vclock (dots_of c)).dots = sym (take-append-drop c.len c.dots) ∙ ap (λ (r : List Dot). dots_of c ++ r) z ∙ sym (places (dots_of c) (omega arith)) in
     let q : c.len ≡ (vclock (dots_of c)).len = sym n ∙ sym (len_vclock (dots_of c)) in
     λ i. record { dots = p i; len = q i }
 
@@ -100,7 +100,7 @@ vclock_normalised l h n =
     let d : drop (length l) (vclock l).dots ≡ replicate (16 - length l) no_dot =
     ap (drop (length l)) (places l h) ∙ drop_at l (drop (length l) (replicate 16 no_dot)) (length l) refl ∙ drop_replicate (length l) 16 no_dot in
     let t : take (length l) (vclock l).dots ≡ l = rw len_vclock at (dots_vclock l h) in
-    rw (len_vclock, le_leb (length l) 16 h) (simp (t, true_from (normal l) (normal_to l n), d, are_unused))
+    rw (len_vclock, le-leb (length l) 16 h) (simp (t, true_from (normal l) (normal_to l n), d, are_unused))
 
 -- two normalised records with the same dots are the same
 pub same_dots : (c d : VClock) → length c.dots ≡ 16 → length d.dots ≡ 16 → normalised c ≡ true → normalised d ≡ true → dots_of c ≡ dots_of d → c ≡ d

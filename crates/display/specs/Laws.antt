@@ -1,6 +1,6 @@
 -- What the text is: decimal says the number, the empty clock is "<>", and the longest text has 528 bytes.
 use Rattle.std.specs.Prelude.{◌≡◌, refl, List, [], ◌∷◌, ◌++◌, Bool, true, false, ℕ, suc, zero, ◌+◌, ◌*◌, ◌-◌, ◌/◌, ◌%◌, ◌^◌, ◌≤◌, ◌<◌, eqb, ltb, length}
-use Rattle.std.proofs.Common.{◌∙◌, arith, div_lt_iff_lt_mul, pow_suc, add_one, ltb_true, ltb_false, lit<, length_append}
+use Rattle.std.proofs.Common.{◌∙◌, arith, div-lt_iff_lt-mul, pow-suc, add-one, ltb-true, ltb-false, lit<, length-append}
 use Rattle.tables.specs.Table.{pick}
 use Rattle.dots.specs.declared.Dot.{Dot}
 use Rattle.dots.specs.Dot.{actor_of, dot}
@@ -19,7 +19,7 @@ two_text = refl
 -- ---- decimal
 
 less : (n k : ℕ) → n < 10 ^ suc k → n / 10 < 10 ^ k
-less n k h = let h' : n < 10 ^ k * 10 = rw pow_suc at h in (div_lt_iff_lt_mul {k = 10} {x = n} {y = 10 ^ k} (lit< tt)).1 h'
+less n k h = let h' : n < 10 ^ k * 10 = rw pow-suc at h in (div-lt_iff_lt-mul {k = 10} {x = n} {y = 10 ^ k} (lit< tt)).1 h'
 
 -- a number below 10 ^ (k + 1) has at most k + 1 digits
 pub width_most : (f n k : ℕ) → n < 10 ^ suc k → width_within f n ≤ suc k
@@ -28,7 +28,7 @@ width_most (suc f) n zero h = go (ltb n 10) refl
   where
     go : (b : Bool) → ltb n 10 ≡ b → pick b 1 (suc (width_within f (n / 10))) ≤ 1
     go true q = omega arith
-    go false q = let l = ltb_false n 10 q in let t : n < 10 ^ 1 = h in absurd (omega arith)
+    go false q = let l = ltb-false n 10 q in let t : n < 10 ^ 1 = h in absurd (omega arith)
 width_most (suc f) n (suc k) h = go (ltb n 10) (width_most f (n / 10) k (less n (suc k) h))
   where
     go : (b : Bool) → width_within f (n / 10) ≤ suc k → pick b 1 (suc (width_within f (n / 10))) ≤ suc (suc k)
@@ -41,8 +41,8 @@ holds zero n h = h
 holds (suc f) n h = go (ltb n 10) refl (holds f (n / 10) (less n (suc f) h))
   where
     go : (b : Bool) → ltb n 10 ≡ b → n / 10 < 10 ^ width_within f (n / 10) → n < 10 ^ pick b 1 (suc (width_within f (n / 10)))
-    go true q l = let t : n < 10 = ltb_true n 10 q in t
-    go false q l = rw pow_suc ((div_lt_iff_lt_mul {k = 10} {x = n} {y = 10 ^ width_within f (n / 10)} (lit< tt)).0 l)
+    go true q l = let t : n < 10 = ltb-true n 10 q in t
+    go false q l = rw pow-suc ((div-lt_iff_lt-mul {k = 10} {x = n} {y = 10 ^ width_within f (n / 10)} (lit< tt)).0 l)
 
 -- what a text of digits says
 abbrev pub value_of : ℕ → List ℕ → ℕ
@@ -66,7 +66,7 @@ decimal_says n h = value_digits (width_within 19 n) n (holds 19 n h)
 
 pub length_digits : (k n : ℕ) → length (digits k n) ≡ k
 length_digits zero n = refl
-length_digits (suc k) n = rw (length_append, length_digits k (n / 10), add_one)
+length_digits (suc k) n = rw (length-append, length_digits k (n / 10), add-one)
 
 pub length_decimal : (n : ℕ) → length (decimal n) ≡ width n
 unfolding decimal
@@ -74,7 +74,7 @@ length_decimal n = length_digits (width n) n
 
 pub length_dot : (d : Dot) → length (dot_text d) ≡ width (actor_of d) + (1 + width d.counter)
 unfolding dot_text
-length_dot d = simp (length_append, length_decimal) (omega arith)
+length_dot d = simp (length-append, length_decimal) (omega arith)
 
 -- the numbers of a dot fit their widths
 pub record Fits (d : Dot) : Type 0 where
@@ -101,14 +101,14 @@ long_items i (d ∷ ds) f = go (eqb i 0) (long_dot d f.0) (long_items (i + 1) ds
   where
     go : (b : Bool) → length (dot_text d) ≤ 31 → length (items (i + 1) ds) ≤ 33 * length ds
         → length ((pick b [] comma ++ dot_text d) ++ items (i + 1) ds) ≤ 33 * suc (length ds)
-    go true l m = simp length_append (omega arith)
-    go false l m = simp length_append (omega arith)
+    go true l m = simp length-append (omega arith)
+    go false l m = simp length-append (omega arith)
 
 -- "the longest is 528 bytes": none is longer, and one is as long
 pub longest : (ds : List Dot) → AllFit ds → length ds ≤ 16 → length (text ds) ≤ 528
 unfolding text items item
 longest [] f h = omega arith
-longest (d ∷ ds) f h = let a = long_dot d f.0 in let b = long_items (0 + 1) ds f.1 in simp length_append (omega arith)
+longest (d ∷ ds) f h = let a = long_dot d f.0 in let b = long_items (0 + 1) ds f.1 in simp length-append (omega arith)
 
 abbrev pub full_from : ℕ → ℕ → List Dot
 full_from a zero = []

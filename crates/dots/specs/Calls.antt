@@ -1,7 +1,7 @@
 -- What the calls on dots answer, under document 01's words.
 use Prim.Native.Nat.{◌+◌, ◌≤◌, ◌<◌, Ordering}
 use Rattle.std.specs.Prelude.{◌≡◌, refl, Bool, true, false, ◌&&◌, leb, eqb}
-use Rattle.std.proofs.Common.{sym, ap, ◌∙◌, arith, leb_true, leb_false, eqb_true, eq_eqb}
+use Rattle.std.proofs.Common.{sym, ap, ◌∙◌, arith, leb-true, leb-false, eqb-true, eq-eqb}
 use Rattle.std.proofs.lemmas.Bool.{false≢true}
 use Rattle.std.proofs.Math.Dec.{is_le}
 use Rattle.tables.specs.Order.{turn}
@@ -81,11 +81,11 @@ when_at_least : (d e : Dot) → at_least d e ≡ true → (actor_of d ≡ actor_
 unfolding at_least
 when_at_least d e h =
     let p = both (eqb (actor_of d) (actor_of e)) (leb e.counter d.counter) h in
-    (eqb_true (actor_of d) (actor_of e) p.0, leb_true e.counter d.counter p.1)
+    (eqb-true (actor_of d) (actor_of e) p.0, leb-true e.counter d.counter p.1)
 
 below : (d e : Dot) → at_least d e ≡ false → actor_of d ≡ actor_of e → d.counter < e.counter
 unfolding at_least
-below d e h same = leb_false e.counter d.counter (rw (eq_eqb (actor_of d) (actor_of e) same) at h)
+below d e h same = leb-false e.counter d.counter (rw (eq-eqb (actor_of d) (actor_of e) same) at h)
 
 pub compare_says : (d e : Dot) (r : Comparison) → means r ≡ standing (at_least d e) (at_least e d) → Says r d e
 compare_says d e r h = go r (sym (ap (λ (t : Standing). t.first_at_least) h)) (sym (ap (λ (t : Standing). t.second_at_least) h))
@@ -104,11 +104,11 @@ pub same_says : (d e : Dot) → same_dot d e ≡ true → d ≡ e
 unfolding same_dot
 same_says d e h =
     let p = both (eqb (actor_of d) (actor_of e)) (eqb d.counter e.counter) h in
-    λ i. dot (eqb_true (actor_of d) (actor_of e) p.0 i) (eqb_true d.counter e.counter p.1 i)
+    λ i. dot (eqb-true (actor_of d) (actor_of e) p.0 i) (eqb-true d.counter e.counter p.1 i)
 
 pub same_self : (d : Dot) → same_dot d d ≡ true
 unfolding same_dot
-same_self d = rw (eq_eqb (actor_of d) (actor_of d) refl, eq_eqb d.counter d.counter refl)
+same_self d = rw (eq-eqb (actor_of d) (actor_of d) refl, eq-eqb d.counter d.counter refl)
 
 -- ---- the answer on ordered dots is that of the total order `dot_order`, and so never none
 

@@ -2,10 +2,10 @@
 -- and `reset_by` see and leave.
 use Prim.Native.Nat.{ℕ, zero, suc, ◌≤◌, ◌<◌, compare, max}
 use Rattle.std.specs.Prelude.{◌≡◌, refl, ◌≢◌, Bool, true, false, not, ◌&&◌, ◌||◌, List, [], ◌∷◌, map, T, leb, ltb, eqb}
-use Rattle.std.proofs.Common.{sym, ap, ◌∙◌, subst, arith, le_trans, not_suc_le_zero, leb→le, le→leb, lt→ltb, ltb→lt, eqb_true, eq_eqb, leb_true, leb_false, le_leb}
-use Rattle.std.proofs.lemmas.Bool.{false≢true, lt_leb}
+use Rattle.std.proofs.Common.{sym, ap, ◌∙◌, subst, arith, le_trans, not-suc-le-zero, leb→le, le→leb, lt→ltb, ltb→lt, eqb-true, eq-eqb, leb-true, leb-false, le-leb}
+use Rattle.std.proofs.lemmas.Bool.{false≢true, lt-leb}
 use Rattle.std.proofs.Math.Option.{Option, none, some}
-use Rattle.std.proofs.Math.Dec.{eqb_zero_suc}
+use Rattle.std.proofs.Math.Dec.{eqb-zero-suc}
 use Rattle.tables.specs.Order.{nat_order}
 use Rattle.tables.specs.Truth.{and_l, and_r, and_i}
 use Rattle.tables.specs.Table.{Normal, Proper, every, all_map, every_all, all_every, every_map, by_row, key_at, every_at, at_every, normal_sift, get_sift, pick, pick_both, is_some, ext}
@@ -21,7 +21,7 @@ pub proper_dot : (d : Dot) → T (ltb 0 d.counter) → Proper clocks d
 proper_dot d t = go d.counter refl (ltb→lt 0 d.counter t)
   where
     go : (k : ℕ) → d.counter ≡ k → 0 < k → dot? (actor_of d) d.counter ≡ some d
-    go zero e l = absurd (not_suc_le_zero l)
+    go zero e l = absurd (not-suc-le-zero l)
     go (suc n) e l = ap (dot? (actor_of d)) e ∙ (λ i. some (dot (actor_of d) ((sym e) i)))
 
 pub dot_proper : (d : Dot) → Proper clocks d → T (ltb 0 d.counter)
@@ -106,9 +106,9 @@ pub leb_max : (n x y : ℕ) → leb n (max x y) ≡ (leb n x || leb n y)
 leb_max n x y = go (leb n x) (leb n y) refl refl
   where
     go : (a b : Bool) → leb n x ≡ a → leb n y ≡ b → leb n (max x y) ≡ (a || b)
-    go true b u v = let h = leb_true n x u in le_leb n (max x y) (omega arith)
-    go false true u v = let h = leb_true n y v in le_leb n (max x y) (omega arith)
-    go false false u v = let h = leb_false n x u in let k = leb_false n y v in lt_leb n (max x y) (omega arith)
+    go true b u v = let h = leb-true n x u in le-leb n (max x y) (omega arith)
+    go false true u v = let h = leb-true n y v in le-leb n (max x y) (omega arith)
+    go false false u v = let h = leb-false n x u in let k = leb-false n y v in lt-leb n (max x y) (omega arith)
 
 -- it covers a dot exactly if one of the two does
 pub merged_dot : (c d : Clock) (a n : ℕ) → leb n (count (merged c d) a) ≡ (leb n (count c a) || leb n (count d a))
@@ -141,9 +141,9 @@ reset_nat : (x y n : ℕ) → eqb (pick (leb x y) 0 x) (suc n) ≡ (eqb x (suc n
 reset_nat x y n = go (leb x y) refl (eqb x (suc n)) refl
   where
     go : (b : Bool) → leb x y ≡ b → (c : Bool) → eqb x (suc n) ≡ c → eqb (pick b 0 x) (suc n) ≡ (c && not (leb (suc n) y))
-    go true u true v = let h = leb_true x y u in let k = eqb_true x (suc n) v in eqb_zero_suc n ∙ rw (le_leb (suc n) y (omega arith))
-    go true u false v = eqb_zero_suc n
-    go false u true v = let h = leb_false x y u in let k = eqb_true x (suc n) v in v ∙ rw (lt_leb (suc n) y (omega arith))
+    go true u true v = let h = leb-true x y u in let k = eqb-true x (suc n) v in eqb-zero-suc n ∙ rw (le-leb (suc n) y (omega arith))
+    go true u false v = eqb-zero-suc n
+    go false u true v = let h = leb-false x y u in let k = eqb-true x (suc n) v in v ∙ rw (lt-leb (suc n) y (omega arith))
     go false u false v = v
 
 -- one dot of a clock that is reset: held before, and not covered
@@ -154,8 +154,8 @@ reset_dot w c h a n = rw (reset_count w c h a) (reset_nat (count c a) (count w a
 
 pub nat_ext : (x y : ℕ) → ((n : ℕ) → eqb x (suc n) ≡ eqb y (suc n)) → x ≡ y
 nat_ext zero zero f = refl
-nat_ext zero (suc y) f = absurd (false≢true (sym (eqb_zero_suc y) ∙ f y ∙ eq_eqb (suc y) (suc y) refl))
-nat_ext (suc x) y f = sym (eqb_true y (suc x) (sym (f x) ∙ eq_eqb (suc x) (suc x) refl))
+nat_ext zero (suc y) f = absurd (false≢true (sym (eqb-zero-suc y) ∙ f y ∙ eq-eqb (suc y) (suc y) refl))
+nat_ext (suc x) y f = sym (eqb-true y (suc x) (sym (f x) ∙ eq-eqb (suc x) (suc x) refl))
 
 -- two normalised clocks with the same dots are equal
 pub dots_ext : (c d : Clock) → Normal clocks c → Normal clocks d → ((a n : ℕ) → eqb (count c a) (suc n) ≡ eqb (count d a) (suc n)) → c ≡ d

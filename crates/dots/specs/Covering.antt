@@ -1,8 +1,8 @@
 -- `covers` as a loop goes: along the first clock's actors, with a place in the second.
 use Prim.Native.Nat.{ℕ, ◌≤◌, ◌<◌, compare, Ordering}
 use Rattle.std.specs.Prelude.{◌≡◌, refl, Bool, true, false, ◌&&◌, [], ◌∷◌, map, T, leb, eqb}
-use Rattle.std.proofs.Common.{sym, ◌∙◌, arith, leb→le, le→leb, ltb→lt, eqb_true}
-use Rattle.std.proofs.lemmas.Bool.{eqb_false}
+use Rattle.std.proofs.Common.{sym, ◌∙◌, arith, leb→le, le→leb, ltb→lt, eqb-true}
+use Rattle.std.proofs.lemmas.Bool.{eqb-false}
 use Rattle.tables.specs.Order.{nat_order, lt_nat}
 use Rattle.tables.specs.Truth.{and_l, and_r, and_i, bool_ext}
 use Rattle.tables.specs.Table.{Normal, Asc, Below, below_trans, find, hit, pick}
@@ -38,8 +38,8 @@ pub by_eq : {C : Type 0} (a b : ℕ) → (a ≡ b → C) → ((a ≡ b → ⊥) 
 by_eq {C} a b f g = go (eqb a b) refl
   where
     go : (t : Bool) → eqb a b ≡ t → C
-    go true e = f (eqb_true a b e)
-    go false e = g (eqb_false a b e)
+    go true e = f (eqb-true a b e)
+    go false e = g (eqb-false a b e)
 
 gone : (k : ℕ) (c : Clock) → Below compare k (map (λ d. actor_of d) c) → count c k ≡ 0
 gone k c h = get_none clocks c k h
@@ -60,7 +60,7 @@ cover_le (d ∷ v) (x ∷ c) h t a =
   where
     go : (b : Bool) → eqb (actor_of x) (actor_of d) ≡ b → pick b x.counter 0 ≤ d.counter → ((a : ℕ) → count (pick b c (x ∷ c)) a ≤ count v a) → count (x ∷ c) a ≤ count (d ∷ v) a
     go true e p f =
-        let s : actor_of x ≡ actor_of d = eqb_true (actor_of x) (actor_of d) e in
+        let s : actor_of x ≡ actor_of d = eqb-true (actor_of x) (actor_of d) e in
         by_eq a (actor_of d)
         (λ q. let u : count (x ∷ c) a ≡ x.counter = rw (q, ← s) (count_same x c) in let w : count (d ∷ v) a ≡ d.counter = rw q (count_same d v) in omega arith)
         (λ n. let u = count_other x c a (λ z. n (z ∙ s)) in let w = count_other d v a n in let g = f a in omega arith)
@@ -84,7 +84,7 @@ le_cover (d ∷ v) (x ∷ c) h n f = go (eqb (actor_of x) (actor_of d)) refl (λ
     go : (b : Bool) → eqb (actor_of x) (actor_of d) ≡ b → ((c : Clock) → Normal clocks c → ((a : ℕ) → count c a ≤ count v a) → T (cover_of v c))
         → T (leb (pick b x.counter 0) d.counter && cover_of v (pick b c (x ∷ c)))
     go true e rec =
-        let s : actor_of x ≡ actor_of d = eqb_true (actor_of x) (actor_of d) e in
+        let s : actor_of x ≡ actor_of d = eqb-true (actor_of x) (actor_of d) e in
         let u = count_same x c in
         let w : count (d ∷ v) (actor_of x) ≡ d.counter = rw s (count_same d v) in
         let g = f (actor_of x) in
@@ -94,7 +94,7 @@ le_cover (d ∷ v) (x ∷ c) h n f = go (eqb (actor_of x) (actor_of d)) refl (λ
         (λ q. let z : count c a ≡ 0 = rw q (gone (actor_of x) c n.asc.0) in omega arith)
         (λ m. let y = count_other x c a m in let k = count_other d v a (λ z. m (z ∙ sym s)) in let l = f a in omega arith)))
     go false e rec =
-        let m = eqb_false (actor_of x) (actor_of d) e in
+        let m = eqb-false (actor_of x) (actor_of d) e in
         and_i (leb 0 d.counter) (cover_of v (x ∷ c)) (le→leb 0 d.counter (omega arith))
         (rec (x ∷ c) n
         (λ a. by_eq a (actor_of d)

@@ -2,7 +2,7 @@
 use Prim.Native.Nat.{ℕ, ◌+◌, ◌≤◌, ◌<◌, compare}
 use Rattle.std.specs.Prelude.{◌≡◌, refl, Bool, true, false, ◌&&◌, [], ◌∷◌, map, T, leb, ltb}
 use Rattle.std.proofs.lemmas.Bool.{false≢true}
-use Rattle.std.proofs.Common.{arith, lt→ltb, ltb→lt, leb_true, le_leb, ltb_true, lt_ltb}
+use Rattle.std.proofs.Common.{arith, lt→ltb, ltb→lt, leb-true, le-leb, ltb-true, lt-ltb}
 use Rattle.tables.specs.Order.{lt_nat, nat_lt}
 use Rattle.tables.specs.Truth.{bool_ext}
 use Rattle.tables.specs.Table.{Normal, Below}
@@ -35,11 +35,11 @@ unfolding rising
 first_of low d c h =
     let r = rising (actor_of d + 1) c in
     let k = both_right (leb low (actor_of d)) (ltb 0 d.counter && r) h in
-    record { from = leb_true low (actor_of d) (both_left (leb low (actor_of d)) (ltb 0 d.counter && r) h); counts = ltb_true 0 d.counter (both_left (ltb 0 d.counter) r k); others = both_right (ltb 0 d.counter) r k }
+    record { from = leb-true low (actor_of d) (both_left (leb low (actor_of d)) (ltb 0 d.counter && r) h); counts = ltb-true 0 d.counter (both_left (ltb 0 d.counter) r k); others = both_right (ltb 0 d.counter) r k }
 
 pub rising_cons : (low : ℕ) (d : Dot) (c : Clock) → First low d c → rising low (d ∷ c) ≡ true
 unfolding rising
-rising_cons low d c f = rw (le_leb low (actor_of d) f.from, lt_ltb 0 d.counter f.counts) f.others
+rising_cons low d c f = rw (le-leb low (actor_of d) f.from, lt-ltb 0 d.counter f.counts) f.others
 
 -- ---- it is the rule
 

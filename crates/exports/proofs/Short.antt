@@ -5,8 +5,8 @@ use mathlib.Core.Bool.{Bool, true, false, not, ◌&&◌, false≢true}
 use mathlib.Core.List.{List}
 use native.Mathlib.Omega.{arith}
 use lib.Dec.{T, eqb, leb, le→leb}
-use lib.ListN.{length, length_map, length_take}
-use borrow.Author.Tests.{eqb_true}
+use lib.ListN.{length, length-map, length-take}
+use borrow.Author.Tests.{eqb-true}
 use Rattle.tables.specs.Table.{pick}
 use Rattle.tables.specs.Refusal.{NoneApplies, first_of}
 use Rattle.tables.specs.Ascending.{before, ascending}
@@ -44,7 +44,7 @@ module _ (c : Call) (orderly : Orderly c) (most : NoneApplies c.refusals → Wit
 
       go : (b : Bool) → eqb (number_of full c (length before)) 0 ≡ b → w.len ≤ 18268
       go true e =
-          let n : w.no ≡ 0 = ap (λ (x : Written). x.no) m.answer ∙ eqb_true (number_of full c (length before)) 0 e in
+          let n : w.no ≡ 0 = ap (λ (x : Written). x.no) m.answer ∙ eqb-true (number_of full c (length before)) 0 e in
           let d = (done_exactly full c before w after m orderly).0 n in
           let h = most d.0 d.1 in
           let l : w.len ≡ length (encode c.result) = len_is ∙ rw e in
@@ -70,7 +70,7 @@ fit_clock : (c : VClock) → T (normalised c) → T (normal (dots_of c) && leb (
 fit_clock c t =
     let e = true_from (normalised c) t in
     let k = few c e in
-    and_i (normal (dots_of c)) (leb (length (dots_of c)) 16) (normal_to (dots_of c) (dots_normal c e)) (le→leb (length (dots_of c)) 16 (rw length_take (omega arith)))
+    and_i (normal (dots_of c)) (leb (length (dots_of c)) 16) (normal_to (dots_of c) (dots_normal c e)) (le→leb (length (dots_of c)) 16 (rw length-take (omega arith)))
 
 pub add_short : (s : List ℕ) (d : Dot) (c : VClock) (ms out after : List ℕ) (w : Written) → Meets full (apply_call s (Add d) c ms) out w after → w.len ≤ 18268
 unfolding apply_call unfit_arguments operated ascending before step apply fits
@@ -95,7 +95,7 @@ unfolding read
 few_members s g =
     let f = well_formed_from full (image_of s) (good_formed s (rw g tt)) in
     let w = (unbroken_right full (image_of s)).0 f.1 in
-    rw length_map w.members_fit
+    rw length-map w.members_fit
 
 -- a count is that of the members, or 0
 counted : (b : Bool) {n m : ℕ} → n ≡ pick b m 0 → m ≤ 64 → n ≤ 64

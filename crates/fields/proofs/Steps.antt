@@ -3,9 +3,9 @@ use Prim.Native.Nat.{ℕ, zero, suc, ◌+◌, ◌*◌, ◌≤◌, ◌<◌, min}
 use mathlib.Core.Path.{◌≡◌, refl, sym, ap, ◌∙◌}
 use mathlib.Core.List.{List, [], ◌∷◌, ◌++◌}
 use native.Mathlib.Omega.{arith}
-use native.Mathlib.Numerals.{add_one}
-use lib.ListN.{length, set, take, drop, get_or, length_take, length_append, drop_of_length_le, get_or-eq_default}
-use lib.Seq.{sets, slice_cons, set_out, take_all, length_take_le}
+use native.Mathlib.Numerals.{add-one}
+use lib.ListN.{length, set, take, drop, get_or, length-take, length-append, drop_of_length-le, get_or-eq_default}
+use lib.Seq.{sets, slice-cons, set_out, take_all, length-take-le}
 use Rattle.tables.specs.Stores.{sets_append}
 use Rattle.tables.specs.Zip.{by_lt}
 use Rattle.dots.specs.declared.Dot.{Dot}
@@ -21,7 +21,7 @@ use Rattle.fields.specs.Read.{clock_read, Put}
 pub list_step : {R : Type 0} (here : List ℕ → ℕ → R) (end : List ℕ → ℕ → ℕ) (s : List ℕ) (p k j : ℕ) → k ≡ j + 1
     → list_at here end s p k ≡ here s p ∷ list_at here end s (end s p) j
 unfolding list_at
-list_step here end s p k j e = rw (e, add_one)
+list_step here end s p k j e = rw (e, add-one)
 
 pub list_end : {R : Type 0} (here : List ℕ → ℕ → R) (end : List ℕ → ℕ → ℕ) (s : List ℕ) (p k : ℕ) → k ≤ 0 → list_at here end s p k ≡ []
 unfolding list_at
@@ -51,7 +51,7 @@ sets_past l p (v ∷ vs) h = rw (set_out l p v h) (sets_past l (suc p) vs (omega
 
 -- a dot is read and stored: what is left to store is one less
 pub load_step : (ds : List Dot) (s : List ℕ) (p k j i : ℕ) (d : Dot) → k ≡ j + 1 → d ≡ dot_at s p → sets (set ds i d) (i + 1) (dots_at s (p + 12) j) ≡ sets ds i (dots_at s p k)
-load_step ds s p k j i d e ed = rw (list_step dot_at (λ s p. p + 12) s p k j e, add_one, ed)
+load_step ds s p k j i d e ed = rw (list_step dot_at (λ s p. p + 12) s p k j e, add-one, ed)
 
 pub load_end : (ds : List Dot) (s : List ℕ) (p k i : ℕ) → k ≤ 0 → sets ds i (dots_at s p k) ≡ ds
 load_end ds s p k i h = rw (list_end dot_at (λ s p. p + 12) s p k h)
@@ -64,11 +64,11 @@ pub store_step : (s : List ℕ) (ds : List Dot) (n p i : ℕ) (d : Dot) → i < 
     → sets (sets (sets s p (le32 (actor_of d))) (p + 4) (le64 d.counter)) (p + 12) (encode_dots (drop (i + 1) (take n ds))) ≡ sets s p (encode_dots (drop i (take n ds)))
 unfolding bytes_of encode_dot_in
 store_step s ds n p i d h hn e =
-    rw (add_one, slice_cons i n ds no_dot h hn, ← e, sets_append, sets_append, length_append, length_le32, length_le64)
+    rw (add-one, slice-cons i n ds no_dot h hn, ← e, sets_append, sets_append, length-append, length_le32, length_le64)
 
 pub store_end : (s : List ℕ) (ds : List Dot) (n p i : ℕ) → n ≤ i → sets s p (encode_dots (drop i (take n ds))) ≡ s
 unfolding bytes_of
-store_end s ds n p i h = let e : length (take n ds) ≤ i = simp length_take (omega arith) in rw (drop_of_length_le (take n ds) e)
+store_end s ds n p i h = let e : length (take n ds) ≤ i = simp length-take (omega arith) in rw (drop_of_length-le (take n ds) e)
 
 -- the count and then the dots are the clock
 pub head_step : (s : List ℕ) (at : ℕ) (ds : List Dot) (n : ℕ) → length ds ≡ n → sets (sets s at (le32 n)) (at + 4) (encode_dots ds) ≡ sets s at (encode_clock ds)
@@ -78,11 +78,11 @@ head_step s at ds n e = rw (e, sets_append, length_le32)
 length_encode_dots : (ds : List Dot) → length (encode_dots ds) ≡ 12 * length ds
 unfolding bytes_of encode_dot_in
 length_encode_dots [] = refl
-length_encode_dots (d ∷ ds) = simp (length_append, length_le32, length_le64, length_encode_dots ds) (omega arith)
+length_encode_dots (d ∷ ds) = simp (length-append, length_le32, length_le64, length_encode_dots ds) (omega arith)
 
 pub length_encode_clock : (ds : List Dot) → length (encode_clock ds) ≡ 4 + 12 * length ds
 unfolding encode_clock_in
-length_encode_clock ds = simp (length_append, length_le32, length_encode_dots)
+length_encode_clock ds = simp (length-append, length_le32, length_encode_dots)
 
 -- the first 16 places are all
 pub few_take : (ds : List Dot) (len n : ℕ) → length ds ≡ 16 → n ≡ min len 16 → take n ds ≡ take len ds
@@ -92,7 +92,7 @@ few_take ds len n h e = by_lt len 16
 
 module _ (s : List ℕ) (at len n : ℕ) (ds : List Dot) (h : length ds ≡ 16) (e : n ≡ min len 16) where
   pub put_long : 4 + 12 * n ≡ length (encode_clock (take len ds))
-  put_long = rw (length_encode_clock (take len ds)) (simp length_take (omega arith))
+  put_long = rw (length_encode_clock (take len ds)) (simp length-take (omega arith))
 
   pub put_none : length s ≤ at → Put s at (encode_clock (take len ds)) s (4 + 12 * n)
   put_none past = record { long = put_long; is = sym (sets_past s at (encode_clock (take len ds)) past) }
@@ -100,20 +100,20 @@ module _ (s : List ℕ) (at len n : ℕ) (ds : List Dot) (h : length ds ≡ 16) 
   pub put_done : (t : List ℕ) → t ≡ sets (sets s at (le32 n)) (at + 4) (encode_dots (take n ds)) → Put s at (encode_clock (take len ds)) t (4 + 12 * n)
   put_done t w = record {
     long = put_long;
-    is = w ∙ head_step s at (take n ds) n (length_take_le n ds (omega arith)) ∙ ap (λ (l : List Dot). sets s at (encode_clock l)) (few_take ds len n h e);
+    is = w ∙ head_step s at (take n ds) n (length-take-le n ds (omega arith)) ∙ ap (λ (l : List Dot). sets s at (encode_clock l)) (few_take ds len n h e);
   }
 
   -- an entry: the member, then the clock
   pub row_none : (m : ℕ) → length s ≤ at → Put s at (encode_row (record { member = m; clock = take len ds })) s (8 + 12 * n)
   unfolding encode_row_in
-  row_none m past = record { long = rw (length_append, length_le32) (omega (arith, put_long)); is = sym (sets_past s at (le32 m ++ encode_clock (take len ds)) past) }
+  row_none m past = record { long = rw (length-append, length_le32) (omega (arith, put_long)); is = sym (sets_past s at (le32 m ++ encode_clock (take len ds)) past) }
 
 pub row_done : (s t u : List ℕ) (at m r : ℕ) (c : Clock) → t ≡ sets s at (le32 m) → Put t (at + 4) (encode_clock c) u r → Put s at (encode_row (record { member = m; clock = c })) u (4 + r)
 unfolding encode_row_in
-row_done s t u at m r c e w = record { long = rw (length_append, length_le32) (ap (λ (k : ℕ). 4 + k) w.long); is = w.is ∙ rw (e, sets_append, length_le32) }
+row_done s t u at m r c e w = record { long = rw (length-append, length_le32) (ap (λ (k : ℕ). 4 + k) w.long); is = w.is ∙ rw (e, sets_append, length_le32) }
 
 pub put_short : (l : List Dot) (len r : ℕ) → length l ≡ 16 → r ≡ length (encode_clock (take len l)) → r ≤ 196
-put_short l len r h e = let k : length (take len l) ≤ 16 = simp length_take (omega arith) in omega (arith, length_encode_clock (take len l))
+put_short l len r h e = let k : length (take len l) ≤ 16 = simp length-take (omega arith) in omega (arith, length_encode_clock (take len l))
 
 -- the version and the zero field are one 32-bit number
 pub contents_are : (s a b c d e f : List ℕ) (total start count wstart wcount : ℕ) → a ≡ sets s 0 (le32 1) → b ≡ sets a 4 (le32 total) → c ≡ sets b 8 (le32 start)

@@ -4,11 +4,11 @@ use mathlib.Core.Path.{◌≡◌, refl, sym, ap, ap₂, ◌∙◌, subst}
 use mathlib.Core.Bool.{Bool, true, false, ◌&&◌}
 use mathlib.Core.List.{List, [], ◌∷◌, map}
 use native.Mathlib.Omega.{arith}
-use native.Mathlib.Nat.{add_zero, zero_add}
+use native.Mathlib.Nat.{add-zero, zero-add}
 use lib.Dec.{leb, ltb, eqb, T, ltb→lt}
-use lib.ListN.{length, take, get_or, replicate, length_map, length-replicate, get_or-replicate, get_or-map}
+use lib.ListN.{length, take, get_or, replicate, length-map, length-replicate, get_or-replicate, get_or-map}
 use lib.Seq.{sets, get_or-take}
-use borrow.Author.Tests.{lt_leb, lt_ltb, ltb_true, eq_eqb, ne_eqb}
+use borrow.Author.Tests.{lt-leb, lt-ltb, ltb-true, eq-eqb, ne_eqb}
 use Rattle.tables.specs.Order.{nat_order, nat_lt, gt_lt}
 use Rattle.tables.specs.Table.{pick, every, All, Asc, Below, Normal, below_trans}
 use Rattle.tables.specs.Zip.{get_none}
@@ -57,7 +57,7 @@ count_low v a h = get_none clocks v a h
 
 covers_low : (v : Clock) (d : Dot) (ds : Clock) → 0 < d.counter → Below compare (actor_of d) (map (λ d. actor_of d) v) → covers v (d ∷ ds) ≡ false
 unfolding covers
-covers_low v d ds h b = rw (count_low v (actor_of d) b, lt_leb d.counter 0 h)
+covers_low v d ds h b = rw (count_low v (actor_of d) b, lt-leb d.counter 0 h)
 
 reorder : (a b c e : Bool) → (a && b && (c && e)) ≡ (a && c && (b && e))
 reorder true true c e = refl
@@ -73,7 +73,7 @@ module _ (t : List ℕ) (k : ℕ → ℕ) where
       → ((j : ℕ) → j < length v → get_or t (q + j) 0 ≡ k (actor_of (get_or v j no_dot))) → fits t q v ds ≡ (covers v ds && every (λ d. ltb (k (actor_of d)) d.counter) ds)
   unfolding fits covers
   fits_is q [] [] va da pos h = refl
-  fits_is q [] (d ∷ ds) va da pos h = rw (lt_leb d.counter 0 pos.0)
+  fits_is q [] (d ∷ ds) va da pos h = rw (lt-leb d.counter 0 pos.0)
   fits_is q (x ∷ v) [] va da pos h = refl
   fits_is q (x ∷ v) (d ∷ ds) va da pos h =
       go (compare (actor_of d) (actor_of x)) refl (fits_is (suc q) v ds va.1 da.1 pos.1 shift) (fits_is (suc q) v (d ∷ ds) va.1 da pos shift)
@@ -91,9 +91,9 @@ module _ (t : List ℕ) (k : ℕ → ℕ) where
       go Ordering.eq e i r =
           let s : actor_of d ≡ actor_of x = nat_order.same (actor_of d) (actor_of x) e in
           let b : Below compare (actor_of x) (map (λ d. actor_of d) ds) = subst (λ (a : ℕ). Below compare a (map (λ d. actor_of d) ds)) s da.0 in
-          let z : get_or t q 0 ≡ k (actor_of d) = rw add_zero at (h 0 (omega arith)) ∙ ap k (sym s) in
+          let z : get_or t q 0 ≡ k (actor_of d) = rw add-zero at (h 0 (omega arith)) ∙ ap k (sym s) in
           let c : count (x ∷ v) (actor_of d) ≡ x.counter = ap (count (x ∷ v)) s ∙ count_same x v in
-          rw (eq_eqb (actor_of d) (actor_of x) s, z, i)
+          rw (eq-eqb (actor_of d) (actor_of x) s, z, i)
           (reorder (leb d.counter x.counter) (ltb (k (actor_of d)) d.counter) (covers v ds) (every (λ d. ltb (k (actor_of d)) d.counter) ds)
           ∙ ap (λ (w : Bool). w && every (λ d. ltb (k (actor_of d)) d.counter) (d ∷ ds)) (ap₂ ◌&&◌ (ap (leb d.counter) (sym c)) (sym (covers_skip x v ds b))))
       go Ordering.gt e i r =
@@ -114,7 +114,7 @@ all_index : (t s : List ℕ) (v : Clock) (R : Replica) (d₀ : Entry) (i p n : �
 unfolding fit_all starts_at list_at
 all_index t s v R d₀ i p zero h = refl
 all_index t s v R d₀ i p (suc n) h =
-    ap₂ ◌&&◌ (rw add_zero at (h 0 (omega arith)))
+    ap₂ ◌&&◌ (rw add-zero at (h 0 (omega arith)))
     (all_index t s v R d₀ (suc i) (row_end s p) n (λ m l. let e : suc i + m ≡ i + suc m = omega arith in rw e (h (suc m) (omega arith))))
 
 -- ---- a lower line
@@ -137,9 +137,9 @@ fits_lower t u q r (x ∷ v) (d ∷ ds) h g =
         let covered = leb d.counter x.counter in
         let over = ltb (get_or t q 0) d.counter in
         let w = both_left (covered && over) (fits t (suc q) v ds) e in
-        let k = ltb_true (get_or t q 0) d.counter (both_right covered over w) in
-        let l = rw (add_zero r, add_zero q) at (h 0 (omega arith)) in
-        rw (both_left covered over w, lt_ltb (get_or u r 0) d.counter (omega arith)) (i (both_right (covered && over) (fits t (suc q) v ds) e))
+        let k = ltb-true (get_or t q 0) d.counter (both_right covered over w) in
+        let l = rw (add-zero r, add-zero q) at (h 0 (omega arith)) in
+        rw (both_left covered over w, lt-ltb (get_or u r 0) d.counter (omega arith)) (i (both_right (covered && over) (fits t (suc q) v ds) e))
     go false i r' e = r' e
 
 all_lower : (t u s : List ℕ) (v : Clock) (i : ℕ) (ps : List ℕ) → ((m j : ℕ) → m < length ps → j < length v → get_or u (16 * (i + m) + j) 0 ≤ get_or t j 0) → fit_all t s v false i ps ≡ true → fit_all u s v true i ps ≡ true
@@ -148,7 +148,7 @@ all_lower t u s v i [] h g = g
 all_lower t u s v i (p ∷ ps) h g =
     let first = fits t 0 v (clock_at s (p + 4)) in
     let others = fit_all t s v false (suc i) ps in
-    rw (fits_lower t u 0 (16 * i) v (clock_at s (p + 4)) (λ j l. rw (zero_add j) (rw add_zero at (h 0 j (omega arith) l))) (both_left first others g))
+    rw (fits_lower t u 0 (16 * i) v (clock_at s (p + 4)) (λ j l. rw (zero-add j) (rw add-zero at (h 0 j (omega arith) l))) (both_left first others g))
     (all_lower t u s v (suc i) ps (λ m j k l. let e : suc i + m ≡ i + suc m = omega arith in rw e (h (suc m) j (omega arith) l)) (both_right first others g))
 
 -- ---- what is read at the places is what stands there
@@ -226,7 +226,7 @@ module _ (s : List ℕ) (start n wstart k : ℕ) (few : n ≤ 64) (waits_few : k
   lines = kill_table (clock_at s 24) (map (λ e. e.member) (rows_at s start n)) (waits_at s wstart k) (replicate 16 0) (replicate 1024 0)
 
   length_members : length (map (λ e. e.member) (rows_at s start n)) ≡ n
-  length_members = simp (length_map, length_list_at)
+  length_members = simp (length-map, length_list_at)
 
   member_at : (m : ℕ) → m < n → get_or (map (λ e. e.member) (rows_at s start n)) m 0 ≡ u32_at s (get_or (places_at s start n) m 0)
   unfolding row_in
@@ -255,7 +255,7 @@ module _ (s : List ℕ) (start n wstart k : ℕ) (few : n ≤ 64) (waits_few : k
       let nc = clock_normal s (p + 4) (place_good s start 0 n m rg h) in
       let nv = clock_normal s 24 cg in
       let row : get_or (rows_at s start n) m (record { member = 0; clock = [] }) ≡ row_at s p = place_row s start n m (record { member = 0; clock = [] }) h in
-      let z : 0 + m ≡ m = zero_add m in
+      let z : 0 + m ≡ m = zero-add m in
       let kn : (j : ℕ) → j < length u → get_or lines (16 * m + j) 0 ≡ kills_of ws (u32_at s p) (actor_of (get_or u j no_dot)) =
       λ j l. line_number m j h l ∙ ap (λ (x : ℕ). kills_of ws x (actor_of (get_or u j no_dot))) (member_at m h) in
       rw (z, row) (fits_is lines (λ a. kills_of ws (u32_at s p) a) (16 * m) u (clock_at s (p + 4)) nv.asc nc.asc (positive (clock_at s (p + 4)) nc) kn
@@ -270,7 +270,7 @@ module _ (s : List ℕ) (start n wstart k : ℕ) (few : n ≤ 64) (waits_few : k
       let long = length_starts_at row_end s start n in
       sym entries_are ∙ all_lower (top_line (clock_at s 24) (waits_at s wstart k)) lines s (clock_at s 24) 0 (places_at s start n)
       (λ m j h l.
-      let e = zero_add m in
+      let e = zero-add m in
       let ms = map (λ e. e.member) (rows_at s start n) in
       let a = line_number m j (omega arith) l in
       let b = top_above (clock_at s 24) ms (clock_normal s 24 cg).asc (rows_rise s start 0 n rg) few_actors (waits_at s wstart k) (replicate 16 0) refl (waits_ordered s wstart [] k wg) (get_or ms m 0) j l in

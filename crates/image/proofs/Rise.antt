@@ -1,12 +1,12 @@
 -- What fits the replica's clock rises, as the clock does. So entries that are laid, and fit, pass all tests of layout's one pass.
 use Prim.Native.Nat.{ℕ, zero, suc, ◌+◌, ◌≤◌}
 use mathlib.Core.Path.{◌≡◌, refl}
-use mathlib.Core.Bool.{Bool, true, false, ◌&&◌, beq, and_true, and_false, false≢true}
+use mathlib.Core.Bool.{Bool, true, false, ◌&&◌, beq, and-true, and-false, false≢true}
 use mathlib.Core.List.{List, [], ◌∷◌}
 use native.Mathlib.Omega.{arith}
 use lib.Dec.{leb, ltb, eqb}
 use lib.ListN.{length, get_or}
-use borrow.Author.Tests.{le_leb, leb_true, ltb_true, eqb_true}
+use borrow.Author.Tests.{le-leb, leb-true, ltb-true, eqb-true}
 use Rattle.tables.specs.Table.{pick, every}
 use Rattle.tables.specs.Truth.{Test, table, beq→eq}
 use Rattle.dots.specs.Dot.{actor_of}
@@ -36,9 +36,9 @@ fits_rise t q low (x ∷ v) (d ∷ ds) r g =
         → (fits t (suc q) v (d ∷ ds) ≡ true → rising (actor_of x + 1) (d ∷ ds) ≡ true)
         → pick b (within d.counter x (get_or t q 0) && fits t (suc q) v ds) (fits t (suc q) v (d ∷ ds)) ≡ true → rising low (d ∷ ds) ≡ true
     go true e l taken other h =
-        let same : actor_of d ≡ actor_of x = eqb_true (actor_of d) (actor_of x) e in
+        let same : actor_of d ≡ actor_of x = eqb-true (actor_of d) (actor_of x) e in
         let w = within d.counter x (get_or t q 0) in
-        let over = ltb_true (get_or t q 0) d.counter (both_right (leb d.counter x.counter) (ltb (get_or t q 0) d.counter) (both_left w (fits t (suc q) v ds) h)) in
+        let over = ltb-true (get_or t q 0) d.counter (both_right (leb d.counter x.counter) (ltb (get_or t q 0) d.counter) (both_left w (fits t (suc q) v ds) h)) in
         rising_cons low d ds (record { from = omega arith; counts = omega arith; others = rw same (taken (both_right w (fits t (suc q) v ds) h)) })
     go false e l taken other h =
         let k = first_of (actor_of x + 1) d ds (other h) in
@@ -75,15 +75,15 @@ rows_are s p low (suc n) = go (leb (row_end s p) (length s)) refl (rows_are s (r
         → good_rows s (row_end s p) (u32_at s p + 1) n ≡ (laid_rows s (row_end s p) (u32_at s p + 1) n && rise s (places_at s (row_end s p) n))
         → good_rows s p low (suc n) ≡ (laid_rows s p low (suc n) && rise s (places_at s p (suc n)))
     go true e i =
-        let room = leb_true (row_end s p) (length s) e in
-        rw (le_leb (p + 4) (length s) (omega arith), le_leb (p + 4 + 4) (length s) (omega arith), e, i)
+        let room = leb-true (row_end s p) (length s) e in
+        rw (le-leb (p + 4) (length s) (omega arith), le-leb (p + 4 + 4) (length s) (omega arith), e, i)
         (order (leb low (u32_at s p)) (ltb 0 (u32_at s (p + 4))) (leb (u32_at s (p + 4)) 16) (laid_rows s (row_end s p) (u32_at s p + 1) n) (rising 0 (clock_at s (p + 4))) (rise s (places_at s (row_end s p) n)))
-    go false e i = simp (e, and_false)
+    go false e i = simp (e, and-false)
 
 pub parts_are : (s : List ℕ) → good_parts s ≡ (laid_parts s && rise s (places_at s (entries_start s) (entries_count s)))
 unfolding good_parts_in laid_parts
 parts_are s = go (rise s (places_at s (entries_start s) (entries_count s))) (rows_are s (entries_start s) 0 (entries_count s))
   where
     go : (b : Bool) → good_rows s (entries_start s) 0 (entries_count s) ≡ (laid_rows s (entries_start s) 0 (entries_count s) && b) → good_parts s ≡ (laid_parts s && b)
-    go true e = simp (e, and_true)
-    go false e = simp (e, and_false)
+    go true e = simp (e, and-true)
+    go false e = simp (e, and-false)

@@ -1,15 +1,15 @@
 -- One turn of the walk of an entry's clock along v, and of the loop over entries; the tests of the contents.
 use Prim.Native.Nat.{ℕ, suc, ◌+◌, ◌-◌, ◌*◌, ◌≤◌, ◌<◌}
 use mathlib.Core.Path.{◌≡◌, refl, sym, ◌∙◌}
-use mathlib.Core.Bool.{Bool, true, false, ◌&&◌, and_false}
+use mathlib.Core.Bool.{Bool, true, false, ◌&&◌, and-false}
 use mathlib.Core.List.{List, [], ◌∷◌}
 use native.Mathlib.Omega.{arith}
-use native.Mathlib.Nat.{add_zero, sub-zero}
-use native.Mathlib.Numerals.{add_one}
+use native.Mathlib.Nat.{add-zero, sub-zero}
+use native.Mathlib.Numerals.{add-one}
 use lib.Dec.{leb, eqb}
 use lib.ListN.{length, get_or}
 use lib.Seq.{slice}
-use borrow.Author.Tests.{le_leb, lt_leb, lt_ltb, le_ltb, eq_eqb, ne_eqb, leb_true}
+use borrow.Author.Tests.{le-leb, lt-leb, lt-ltb, le-ltb, eq-eqb, ne_eqb, leb-true}
 use Rattle.tables.specs.Table.{pick}
 use Rattle.tables.specs.Zip.{by_lt}
 use Rattle.dots.specs.declared.Dot.{Dot}
@@ -29,27 +29,27 @@ use Rattle.image.specs.Fits.{within, met_of, fits, line_for, fit_all}
 module _ (s : List ℕ) where
   pub contents_short : length s < 24 → false ≡ good_contents s
   unfolding good_contents_in
-  contents_short h = rw (lt_leb 24 (length s) h)
+  contents_short h = rw (lt-leb 24 (length s) h)
 
   pub contents_version : (u16_at s 0 ≡ 1 → ⊥) → false ≡ good_contents s
   unfolding good_contents_in
-  contents_version h = simp (ne_eqb (u16_at s 0) 1 h, and_false)
+  contents_version h = simp (ne_eqb (u16_at s 0) 1 h, and-false)
 
   pub contents_zero : (u16_at s 2 ≡ 0 → ⊥) → false ≡ good_contents s
   unfolding good_contents_in
-  contents_zero h = simp (ne_eqb (u16_at s 2) 0 h, and_false)
+  contents_zero h = simp (ne_eqb (u16_at s 2) 0 h, and-false)
 
   pub contents_total : (u32_at s 4 ≡ length s → ⊥) → false ≡ good_contents s
   unfolding good_contents_in
-  contents_total h = simp (ne_eqb (u32_at s 4) (length s) h, and_false)
+  contents_total h = simp (ne_eqb (u32_at s 4) (length s) h, and-false)
 
   pub contents_many : 64 < u32_at s 12 → false ≡ good_contents s
   unfolding good_contents_in
-  contents_many h = simp (lt_leb (u32_at s 12) 64 h, and_false)
+  contents_many h = simp (lt-leb (u32_at s 12) 64 h, and-false)
 
   pub contents_waits : 24 ≤ length s → u16_at s 0 ≡ 1 → u16_at s 2 ≡ 0 → u32_at s 4 ≡ length s → u32_at s 12 ≤ 64 → (x : ℕ) → x ≡ u32_at s 20 → leb x 16 ≡ good_contents s
   unfolding good_contents_in
-  contents_waits a b c d e x f = rw (f, le_leb 24 (length s) a, eq_eqb (u16_at s 0) 1 b, eq_eqb (u16_at s 2) 0 c, eq_eqb (u32_at s 4) (length s) d, le_leb (u32_at s 12) 64 e)
+  contents_waits a b c d e x f = rw (f, le-leb 24 (length s) a, eq-eqb (u16_at s 0) 1 b, eq-eqb (u16_at s 2) 0 c, eq-eqb (u32_at s 4) (length s) d, le-leb (u32_at s 12) 64 e)
 
   pub contents_few : good_contents s ≡ true → (u32_at s 12 ≤ 64) × (u32_at s 20 ≤ 16)
   unfolding good_contents_in
@@ -63,7 +63,7 @@ module _ (s : List ℕ) where
       let h2 = both_right v (z && (t && (n && w))) h1 in
       let h3 = both_right z (t && (n && w)) h2 in
       let h4 = both_right t (n && w) h3 in
-      (leb_true (u32_at s 12) 64 (both_left n w h4), leb_true (u32_at s 20) 16 (both_right n w h4))
+      (leb-true (u32_at s 12) 64 (both_left n w h4), leb-true (u32_at s 20) 16 (both_right n w h4))
 
 -- ---- one dot
 
@@ -75,16 +75,16 @@ module _ (s : List ℕ) (p q line : ℕ) where
   module _ (e : u32_at s p ≡ u32_at s q) where
     pub met_above : u64_at s (q + 4) < u64_at s (p + 4) → ◌≡◌ {A = ℕ} 2 (met_of (dot_at s p) (dot_at s q) line)
     unfolding met_of dot_in
-    met_above h = rw (eq_eqb (u32_at s p) (u32_at s q) e, lt_leb (u64_at s (p + 4)) (u64_at s (q + 4)) h)
+    met_above h = rw (eq-eqb (u32_at s p) (u32_at s q) e, lt-leb (u64_at s (p + 4)) (u64_at s (q + 4)) h)
 
     module _ (h : u64_at s (p + 4) ≤ u64_at s (q + 4)) where
       pub met_under : u64_at s (p + 4) ≤ line → ◌≡◌ {A = ℕ} 2 (met_of (dot_at s p) (dot_at s q) line)
       unfolding met_of dot_in
-      met_under l = rw (eq_eqb (u32_at s p) (u32_at s q) e, le_leb (u64_at s (p + 4)) (u64_at s (q + 4)) h, le_ltb line (u64_at s (p + 4)) l)
+      met_under l = rw (eq-eqb (u32_at s p) (u32_at s q) e, le-leb (u64_at s (p + 4)) (u64_at s (q + 4)) h, le-ltb line (u64_at s (p + 4)) l)
 
       pub met_within : line < u64_at s (p + 4) → ◌≡◌ {A = ℕ} 1 (met_of (dot_at s p) (dot_at s q) line)
       unfolding met_of dot_in
-      met_within l = rw (eq_eqb (u32_at s p) (u32_at s q) e, le_leb (u64_at s (p + 4)) (u64_at s (q + 4)) h, lt_ltb line (u64_at s (p + 4)) l)
+      met_within l = rw (eq-eqb (u32_at s p) (u32_at s q) e, le-leb (u64_at s (p + 4)) (u64_at s (q + 4)) h, lt-ltb line (u64_at s (p + 4)) l)
 
 -- ---- a turn along v
 
@@ -110,7 +110,7 @@ unfolding fits
 too_many t q [] [] h = absurd (omega arith)
 too_many t q [] (d ∷ ds) h = refl
 too_many t q (x ∷ v) [] h = absurd (omega arith)
-too_many t q (x ∷ v) (d ∷ ds) h = simp (too_many t (suc q) v ds (omega arith), too_many t (suc q) v (d ∷ ds) (omega arith), and_false) (go (eqb (actor_of d) (actor_of x)))
+too_many t q (x ∷ v) (d ∷ ds) h = simp (too_many t (suc q) v ds (omega arith), too_many t (suc q) v (d ∷ ds) (omega arith), and-false) (go (eqb (actor_of d) (actor_of x)))
   where
     go : (b : Bool) → pick b false false ≡ false
     go true = refl
@@ -173,7 +173,7 @@ module _ (t s : List ℕ) (line k : ℕ) where
     pub row_turn : (one ≡ 2 → ⊥) → row_ahead (j + 1) (p + 12 * one) (left - one) ≡ row_ahead j p left
     row_turn y = by_lt 0 one
         (λ h. let f : one ≡ 1 = omega arith in rw f (row_taken f))
-        (λ h. let f : one ≡ 0 = omega arith in rw f (rw (add_zero p, sub-zero left) (row_other f)))
+        (λ h. let f : one ≡ 0 = omega arith in rw f (rw (add-zero p, sub-zero left) (row_other f)))
 
     -- as many dots as the clock has: one that is not taken is left over
     pub row_out : k - j ≤ left → (one ≡ 1 → ⊥) → false ≡ row_ahead j p left
@@ -190,7 +190,7 @@ line_room false i q n h e k = omega arith
 module _ (t s : List ℕ) (v : Clock) (places : List ℕ) (n i p : ℕ) (h : i < n) (k : n ≤ length places) (e : p ≡ get_or places i 0) (b : Bool) (own : Bool) (q : ℕ) (g : q ≡ line_for own i) (f : b ≡ fits t q v (clock_at s (p + 4))) where
   turn_all : fit_all t s v own i (slice i n places) ≡ (fits t (line_for own i) v (clock_at s (p + 4)) && fit_all t s v own (i + 1) (slice (i + 1) n places))
   unfolding fit_all
-  turn_all = rw (ahead places i n 0 h k, ← e, add_one i)
+  turn_all = rw (ahead places i n 0 h k, ← e, add-one i)
 
   pub all_turn : b ≡ true → fit_all t s v own (i + 1) (slice (i + 1) n places) ≡ fit_all t s v own i (slice i n places)
   all_turn y = sym (turn_all ∙ rw (← g, sym f ∙ y))

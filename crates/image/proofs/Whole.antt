@@ -1,13 +1,13 @@
 -- What each test of the parts says of the whole.
 use Prim.Native.Nat.{ℕ, zero, suc, ◌+◌, ◌*◌, ◌≤◌, min}
 use mathlib.Core.Path.{◌≡◌, refl, sym, ap, ◌∙◌}
-use mathlib.Core.Bool.{Bool, true, false, ◌&&◌, and_false, false≢true}
+use mathlib.Core.Bool.{Bool, true, false, ◌&&◌, and-false, false≢true}
 use mathlib.Core.List.{List, []}
 use native.Mathlib.Omega.{arith}
 use lib.Dec.{leb}
 use lib.ListN.{length, replicate}
 use lib.Seq.{sets}
-use borrow.Author.Tests.{le_leb, eq_eqb, ne_eqb}
+use borrow.Author.Tests.{le-leb, eq-eqb, ne_eqb}
 use Rattle.tables.specs.Table.{pick}
 use Rattle.dots.specs.Rising.{both_right}
 use Rattle.clocks.specs.declared.VClock.{VClock}
@@ -88,13 +88,13 @@ module _ (s : List ℕ) (at n : ℕ) where
     unfolding rows_table no_table
     rows_untold t hn e g =
         let r = picked_false (λ (x : Table). x.good) (leb n 64 && (inside s at && laid_rows s at 0 n)) t table no_table e refl g in
-        rw (le_leb n 64 hn, le_leb (length s) 4294967295 hl, le_leb at (length s) ha) at r
+        rw (le-leb n 64 hn, le-leb (length s) 4294967295 hl, le-leb at (length s) ha) at r
 
     pub waits_untold : (t : Waits) → n ≤ 16 → t ≡ waits_table s at n → t.good ≡ false → good_waits s at [] n ≡ false
     unfolding waits_table no_waits
     waits_untold t hn e g =
         let r = picked_false (λ (x : Waits). x.good) (leb n 16 && (inside s at && good_waits s at [] n)) t wait_table no_waits e refl g in
-        rw (le_leb n 16 hn, le_leb (length s) 4294967295 hl, le_leb at (length s) ha) at r
+        rw (le-leb n 16 hn, le-leb (length s) 4294967295 hl, le-leb at (length s) ha) at r
 
 -- ---- the whole
 
@@ -105,27 +105,27 @@ module _ (s : List ℕ) where
 
   pub no_clock : (e : ℕ) → e ≡ clock_ends s 24 → e ≡ 0 → no_image ≡ parts_image s
   unfolding parts_image laid_parts
-  no_clock e w z = simp (clock_none s 24 e w z, and_false)
+  no_clock e w z = simp (clock_none s 24 e w z, and-false)
 
   pub no_start : (e : ℕ) → e ≡ clock_ends s 24 → (e ≡ 0 → ⊥) → (u32_at s 8 ≡ e → ⊥) → no_image ≡ parts_image s
   unfolding parts_image laid_parts
-  no_start e w z d = simp (ne_eqb (u32_at s 8) (clock_end s 24) (λ q. d (q ∙ sym (clock_some s 24 e w z).1)), and_false)
+  no_start e w z d = simp (ne_eqb (u32_at s 8) (clock_end s 24) (λ q. d (q ∙ sym (clock_some s 24 e w z).1)), and-false)
 
   pub no_rows : laid_rows s (u32_at s 8) 0 (u32_at s 12) ≡ false → no_image ≡ parts_image s
   unfolding parts_image laid_parts
-  no_rows h = simp (h, and_false)
+  no_rows h = simp (h, and-false)
 
   pub no_waits_start : (u32_at s 16 ≡ rows_end_at s (u32_at s 8) (u32_at s 12) → ⊥) → no_image ≡ parts_image s
   unfolding parts_image laid_parts
-  no_waits_start d = simp (ne_eqb (u32_at s 16) (rows_end_at s (u32_at s 8) (u32_at s 12)) d, and_false)
+  no_waits_start d = simp (ne_eqb (u32_at s 16) (rows_end_at s (u32_at s 8) (u32_at s 12)) d, and-false)
 
   pub no_waiting : good_waits s (u32_at s 16) [] (u32_at s 20) ≡ false → no_image ≡ parts_image s
   unfolding parts_image laid_parts
-  no_waiting h = simp (h, and_false)
+  no_waiting h = simp (h, and-false)
 
   pub no_end : (waits_end_at s (u32_at s 16) (u32_at s 20) ≡ length s → ⊥) → no_image ≡ parts_image s
   unfolding parts_image laid_parts
-  no_end d = simp (ne_eqb (waits_end_at s (u32_at s 16) (u32_at s 20)) (length s) d, and_false)
+  no_end d = simp (ne_eqb (waits_end_at s (u32_at s 16) (u32_at s 20)) (length s) d, and-false)
 
   pub all_parts : good_contents s ≡ true → good_clock s 24 ≡ true → u32_at s 8 ≡ clock_end s 24 → laid_rows s (u32_at s 8) 0 (u32_at s 12) ≡ true
       → u32_at s 16 ≡ rows_end_at s (u32_at s 8) (u32_at s 12) → good_waits s (u32_at s 16) [] (u32_at s 20) ≡ true → waits_end_at s (u32_at s 16) (u32_at s 20) ≡ length s
@@ -137,4 +137,4 @@ module _ (s : List ℕ) where
   all_parts a b d e f g h c m n t w ec em en et ew =
       let k : c ≡ vclock (clock_at s 24) = ec ∙ ap vclock (read_good s 24 b) in
       (λ i. record { good = true; clock = k i; entries = em i; places = (et i).places; waits = en i; starts = (ew i).places })
-      ∙ sym (rw (a, b, eq_eqb (u32_at s 8) (clock_end s 24) d, e, eq_eqb (u32_at s 16) (rows_end_at s (u32_at s 8) (u32_at s 12)) f, g, eq_eqb (waits_end_at s (u32_at s 16) (u32_at s 20)) (length s) h))
+      ∙ sym (rw (a, b, eq-eqb (u32_at s 8) (clock_end s 24) d, e, eq-eqb (u32_at s 16) (rows_end_at s (u32_at s 8) (u32_at s 12)) f, g, eq-eqb (waits_end_at s (u32_at s 16) (u32_at s 20)) (length s) h))

@@ -4,12 +4,12 @@ use mathlib.Core.Path.{◌≡◌, refl, sym, ap, ap₂, ◌∙◌}
 use mathlib.Core.Bool.{Bool, true, false}
 use mathlib.Core.List.{List, [], ◌∷◌, map}
 use native.Mathlib.Omega.{arith}
-use native.Mathlib.Nat.{add_zero, zero_add, add_assoc, zero-max}
-use native.Mathlib.Numerals.{add_one}
+use native.Mathlib.Nat.{add-zero, zero-add, add_assoc, zero-max}
+use native.Mathlib.Numerals.{add-one}
 use lib.Dec.{eqb}
-use lib.ListN.{length, take, drop, set, get_or, replicate, drop_of_length_le, get_or-eq_default}
-use lib.Seq.{get_or_set_same, get_or_set_other, sets, slice, sets_eq, length_sets, take_all, take_at}
-use borrow.Author.Tests.{lt_ltb, le_ltb, eq_eqb, ne_eqb}
+use lib.ListN.{length, take, drop, set, get_or, replicate, drop_of_length-le, get_or-eq_default}
+use lib.Seq.{get_or-set_same, get_or-set_other, sets, slice, sets-eq, length-sets, take_all, take_at}
+use borrow.Author.Tests.{lt-ltb, le-ltb, eq-eqb, ne_eqb}
 use Rattle.tables.specs.Stores.{sets_append}
 use Rattle.tables.specs.Table.{pick}
 use Rattle.tables.specs.Zip.{Rows, said, by_lt}
@@ -31,8 +31,8 @@ use Rattle.kills.specs.Laws.{length_along, raise_grows, length_raised, sets_cons
 
 pub filled_turn : (t : List ℕ) (from i : ℕ) (copy : List ℕ) → i < length copy → Filled t from i copy → Filled t from (i + 1) (set copy i (get_or t (from + i) 0))
 filled_turn t from i copy h f = record {
-  low = λ j l. by_lt j i (λ k. get_or_set_other copy i j (get_or t (from + i) 0) 0 (λ e. omega arith) ∙ f.low j k) (λ k. let e : j ≡ i = omega arith in rw e (get_or_set_same copy i (get_or t (from + i) 0) 0 h));
-  high = λ j l. get_or_set_other copy i j (get_or t (from + i) 0) 0 (λ e. omega arith) ∙ f.high j (omega arith);
+  low = λ j l. by_lt j i (λ k. get_or-set_other copy i j (get_or t (from + i) 0) 0 (λ e. omega arith) ∙ f.low j k) (λ k. let e : j ≡ i = omega arith in rw e (get_or-set_same copy i (get_or t (from + i) 0) 0 h));
+  high = λ j l. get_or-set_other copy i j (get_or t (from + i) 0) 0 (λ e. omega arith) ∙ f.high j (omega arith);
 }
 
 zeros : (n j : ℕ) → ◌≡◌ {A = ℕ} (get_or (replicate n 0) j 0) 0
@@ -73,18 +73,18 @@ module _ (t : List ℕ) (from : ℕ) (copy : List ℕ) (same : (j : ℕ) → j <
       ∙ sym (list_step dot_at (λ s p. p + 12) t (from + k) (suc left) left (omega arith))
 
 pub padded_dots : (t : List ℕ) (from : ℕ) (copy : List ℕ) (left : ℕ) → left ≤ 16 → Padded t from copy → dots_at copy 0 left ≡ dots_at t from left
-padded_dots t from copy left h p = padded_from t from copy p.same left 0 (omega arith) ∙ ap (λ (q : ℕ). dots_at t q left) (add_zero from)
+padded_dots t from copy left h p = padded_from t from copy p.same left 0 (omega arith) ∙ ap (λ (q : ℕ). dots_at t q left) (add-zero from)
 
 -- ---- dots that stand in bytes one after the other
 
 module _ (t : List ℕ) (k : ℕ) where
   pub skip_dot : (p q left j : ℕ) → left ≡ j + 1 → q ≡ p + 12 → u32_at t p < k → reach dots k (dots_at t p left) ≡ reach dots k (dots_at t q j)
   unfolding dot_in
-  skip_dot p q left j e f h = rw (list_step dot_at (λ s p. p + 12) t p left j e, lt_ltb (u32_at t p) k h, f)
+  skip_dot p q left j e f h = rw (list_step dot_at (λ s p. p + 12) t p left j e, lt-ltb (u32_at t p) k h, f)
 
   pub stop_dot : (p left j : ℕ) → left ≡ j + 1 → k ≤ u32_at t p → reach dots k (dots_at t p left) ≡ dots_at t p left
   unfolding dot_in
-  stop_dot p left j e h = rw (list_step dot_at (λ s p. p + 12) t p left j e, le_ltb (u32_at t p) k h)
+  stop_dot p left j e h = rw (list_step dot_at (λ s p. p + 12) t p left j e, le-ltb (u32_at t p) k h)
 
   pub end_dot : (p left : ℕ) → left ≤ 0 → reach dots k (dots_at t p left) ≡ dots_at t p left
   end_dot p left h = rw (list_end dot_at (λ s p. p + 12) t p left h)
@@ -97,7 +97,7 @@ module _ (t : List ℕ) (k : ℕ) where
   said_first p left h = rw (list_step dot_at (λ s p. p + 12) t p left (left - 1) (omega arith))
 
   pub counted_first : (p left : ℕ) → 0 < left → u32_at t p ≡ k → u64_at t (p + 4) ≡ said dots k (dots_at t p left)
-  counted_first p left h e = sym (said_first p left h ∙ rw (eq_eqb (u32_at t p) k e))
+  counted_first p left h e = sym (said_first p left h ∙ rw (eq-eqb (u32_at t p) k e))
 
   pub counted_other : (p left : ℕ) → 0 < left → (u32_at t p ≡ k → ⊥) → ◌≡◌ {A = ℕ} 0 (said dots k (dots_at t p left))
   counted_other p left h e = sym (said_first p left h ∙ rw (ne_eqb (u32_at t p) k e))
@@ -119,20 +119,20 @@ set_same (y ∷ t) (suc p) x h = ap (λ (l : List ℕ). y ∷ l) (set_same t p x
 pub raise_turn : (out line : List ℕ) (p q j : ℕ) → j < length line → q ≡ p + 1
     → raise_from (set out p (max (get_or out p 0) (get_or line j 0))) q (drop (j + 1) line) ≡ raise_from out p (drop j line)
 unfolding raise_from
-raise_turn out line p q j h e = rw (rest line j 0 h, e, add_one p)
+raise_turn out line p q j h e = rw (rest line j 0 h, e, add-one p)
 
 pub raise_end : (out line : List ℕ) (p j : ℕ) → length line ≤ j → raise_from out p (drop j line) ≡ out
 unfolding raise_from
-raise_end out line p j h = let e = drop_of_length_le line {i = j} h in rw e
+raise_end out line p j h = let e = drop_of_length-le line {i = j} h in rw e
 
 -- ---- one walk along keys and rows
 
 module _ (N : Rows) (ks : List ℕ) (n i : ℕ) (r : N.Row) (rs : List N.Row) where
   along_turn : i < n → n ≤ length ks → get_or ks i 0 ≤ N.key r → along N (slice i n ks) (r ∷ rs) ≡ said N (get_or ks i 0) (r ∷ rs) ∷ along N (slice (i + 1) n ks) (r ∷ rs)
-  along_turn h k q = rw (ahead ks i n 0 h k, le_ltb (N.key r) (get_or ks i 0) q)
+  along_turn h k q = rw (ahead ks i n 0 h k, le-ltb (N.key r) (get_or ks i 0) q)
 
   pub along_stop : i < n → n ≤ length ks → N.key r < get_or ks i 0 → along N (slice i n ks) rs ≡ along N (slice i n ks) (r ∷ rs)
-  along_stop h k q = rw (ahead ks i n 0 h k, lt_ltb (N.key r) (get_or ks i 0) q)
+  along_stop h k q = rw (ahead ks i n 0 h k, lt-ltb (N.key r) (get_or ks i 0) q)
 
   pub along_end : n ≤ i → along N (slice i n ks) rs ≡ along N (slice i n ks) (r ∷ rs)
   along_end h = rw (done ks i n h)
@@ -142,7 +142,7 @@ module _ (N : Rows) (ks : List ℕ) (n i : ℕ) (r : N.Row) (rs : List N.Row) wh
 pub same_turn : (ms line out out' rs : List ℕ) (n i m : ℕ) → i < n → n ≤ length ms → get_or ms i 0 ≤ m → out' ≡ pick (eqb m (get_or ms i 0)) (raise_from out (16 * i) line) out
     → lines_by ms n line out' (i + 1) (m ∷ rs) ≡ lines_by ms n line out i (m ∷ rs)
 unfolding raised
-same_turn ms line out out' rs n i m h k q w = rw (along_turn member_rows ms n i m rs h k q, flag (eqb m (get_or ms i 0)), w, add_one)
+same_turn ms line out out' rs n i m h k q w = rw (along_turn member_rows ms n i m rs h k q, flag (eqb m (get_or ms i 0)), w, add-one)
   where
     flag : (b : Bool) → pick b true false ≡ b
     flag true = refl
@@ -169,10 +169,10 @@ named_end t ms out line n i p left h = rw (list_end u32_at (λ s p. p + 4) t p l
 pub number_turn : (actors line line' : List ℕ) (ds : List Dot) (n i a x : ℕ) → i < n → n ≤ length actors → get_or actors i 0 ≤ a
     → line' ≡ set line i (max (get_or line i 0) (pick (eqb a (get_or actors i 0)) x 0)) → numbers_by actors n line' (i + 1) (dot a x ∷ ds) ≡ numbers_by actors n line i (dot a x ∷ ds)
 unfolding raise_from
-number_turn actors line line' ds n i a x h k q w = rw (along_turn dots actors n i (dot a x) ds h k q, w, add_one)
+number_turn actors line line' ds n i a x h k q w = rw (along_turn dots actors n i (dot a x) ds h k q, w, add-one)
 
 pub number_met : (line : List ℕ) (i a b x y : ℕ) → a ≡ b → y ≡ max (get_or line i 0) x → set line i y ≡ set line i (max (get_or line i 0) (pick (eqb a b) x 0))
-number_met line i a b x y e f = rw (eq_eqb a b e, f)
+number_met line i a b x y e f = rw (eq-eqb a b e, f)
 
 pub number_kept : (line : List ℕ) (i a b x : ℕ) → (a ≡ b → ⊥) → line ≡ set line i (max (get_or line i 0) (pick (eqb a b) x 0))
 number_kept line i a b x e = rw (ne_eqb a b e) (sym (set_same line i 0 (λ h. omega arith)))
@@ -198,13 +198,13 @@ dots_end t actors line n i p left h = rw (list_end dot_at (λ s p. p + 12) t p l
 
 module _ {A : Type 0} (f : A → ℕ) (none : A) (l : List A) (n : ℕ) where
   pub each_turn : (out : List ℕ) (i x : ℕ) → i < n → n ≤ length l → x ≡ f (get_or l i none) → sets (set out i x) (i + 1) (map f (slice (i + 1) n l)) ≡ sets out i (map f (slice i n l))
-  each_turn out i x h k e = rw (ahead l i n none h k, ← e, add_one)
+  each_turn out i x h k e = rw (ahead l i n none h k, ← e, add-one)
 
   pub each_end : (out : List ℕ) (i : ℕ) → n ≤ i → sets out i (map f (slice i n l)) ≡ out
   each_end out i h = rw (done l i n h)
 
 pub taken : (z xs : List ℕ) (n : ℕ) → length xs ≡ n → n ≤ length z → take n (sets z 0 xs) ≡ xs
-taken z xs n e h = rw (sets_eq xs z 0 (omega arith)) (take_at xs (drop (0 + length xs) z) n e)
+taken z xs n e h = rw (sets-eq xs z 0 (omega arith)) (take_at xs (drop (0 + length xs) z) n e)
 
 -- ---- the floor
 
@@ -213,10 +213,10 @@ pub under_turn : (line floor : List ℕ) (j : ℕ) → ((i : ℕ) → i < j → 
 under_turn line floor j h k i l = by_lt i j (λ q. h i q) (λ q. let e : i ≡ j = omega arith in rw e k)
 
 pub lay_turn : (out floor : List ℕ) (p q j : ℕ) → j < length floor → q ≡ p + 1 → sets (set out p (get_or floor j 0)) q (drop (j + 1) floor) ≡ sets out p (drop j floor)
-lay_turn out floor p q j h e = rw (rest floor j 0 h, e, add_one p)
+lay_turn out floor p q j h e = rw (rest floor j 0 h, e, add-one p)
 
 pub lay_end : (out floor : List ℕ) (p j : ℕ) → length floor ≤ j → sets out p (drop j floor) ≡ out
-lay_end out floor p j h = let e = drop_of_length_le floor {i = j} h in rw e
+lay_end out floor p j h = let e = drop_of_length-le floor {i = j} h in rw e
 
 pub spread_turn : (out out' floor : List ℕ) (n i : ℕ) → i < n → length floor ≡ 16 → out' ≡ sets out (16 * i) floor → sets out' (16 * (i + 1)) (spread (n - (i + 1)) floor) ≡ sets out (16 * i) (spread (n - i) floor)
 unfolding spread
@@ -235,7 +235,7 @@ raise_none : (t : List ℕ) (p : ℕ) (xs : List ℕ) → ((j : ℕ) → j < len
 unfolding raise_from
 raise_none t p [] h = refl
 raise_none t p (x ∷ xs) h =
-    let e = set_same t p x (rw add_zero at (h 0 (omega arith))) in
+    let e = set_same t p x (rw add-zero at (h 0 (omega arith))) in
     rw e (raise_none t (suc p) xs (λ j l k. let f : suc p + j ≡ p + suc j = omega arith in rw f (h (suc j) (omega arith) (omega arith))))
 
 raised_none : (t : List ℕ) (i : ℕ) (bs : List Bool) (xs : List ℕ) → length xs ≡ 16 → ((m j : ℕ) → m < length bs → j < 16 → 16 * (i + m) + j < length t → get_or xs j 0 ≤ get_or t (16 * (i + m) + j) 0) → raised t i bs xs ≡ t
@@ -245,11 +245,11 @@ raised_none t i (b ∷ bs) xs l h =
     rw (first b) (raised_none t (suc i) bs xs l (λ m j u v k. let f : suc i + m ≡ i + suc m = omega arith in rw f (h (suc m) j (omega arith) v (omega arith))))
   where
     first : (b : Bool) → pick b (raise_from t (16 * i) xs) t ≡ t
-    first true = raise_none t (16 * i) xs (λ j u. rw add_zero at (h 0 j (omega arith) (omega arith)))
+    first true = raise_none t (16 * i) xs (λ j u. rw add-zero at (h 0 j (omega arith) (omega arith)))
     first false = refl
 
 pub none_above : (t floor : List ℕ) (n : ℕ) (bs : List Bool) (xs : List ℕ) → length xs ≡ 16 → length bs ≤ n → Founded floor n t → ((j : ℕ) → j < 16 → get_or xs j 0 ≤ get_or floor j 0) → t ≡ raised t 0 bs xs
-none_above t floor n bs xs l k f h = sym (raised_none t 0 bs xs l (λ m j u v q. let e = zero_add m in rw e (let a = h j v in let b = f.least m j (omega arith) v (omega arith) in omega arith)))
+none_above t floor n bs xs l k f h = sym (raised_none t 0 bs xs l (λ m j u v q. let e = zero-add m in rw e (let a = h j v in let b = f.least m j (omega arith) v (omega arith) in omega arith)))
 
 -- a table that is nowhere below the floor stays so
 
@@ -269,7 +269,7 @@ founded_raised t t' floor n bs xs w e f =
 
 pub founded_spread : (t t' floor : List ℕ) (n : ℕ) → length floor ≡ 16 → t' ≡ sets t 0 (spread n floor) → Founded floor n t'
 founded_spread t t' floor n l e =
-    let s : length t' ≡ length t = ap length e ∙ length_sets t 0 (spread n floor) in
+    let s : length t' ≡ length t = ap length e ∙ length-sets t 0 (spread n floor) in
     record { least = λ i j h u k. rw e (let a = spread_front t floor n i j l h u (omega arith) in omega arith) }
 
 -- ---- a line raised by the counters of a clock is raised by the clock's line, and zeros so raised are that line
@@ -283,7 +283,7 @@ raise_padded t p (suc m) (x ∷ xs) h = rw (sets_cons x (replicate m 0) 0 xs) (r
 raise_zeros : (t : List ℕ) (p : ℕ) (xs : List ℕ) → ((q : ℕ) → p ≤ q → get_or t q 0 ≡ 0) → raise_from t p xs ≡ sets t p xs
 unfolding raise_from
 raise_zeros t p [] z = refl
-raise_zeros t p (x ∷ xs) z = rw (z p (omega arith), zero-max) (raise_zeros (set t p x) (suc p) xs (λ q h. get_or_set_other t p q x 0 (λ e. omega arith) ∙ z q (omega arith)))
+raise_zeros t p (x ∷ xs) z = rw (z p (omega arith), zero-max) (raise_zeros (set t p x) (suc p) xs (λ q h. get_or-set_other t p q x 0 (λ e. omega arith) ∙ z q (omega arith)))
 
 module _ (v c : Clock) (actors : List ℕ) (e : actors ≡ map (λ d. actor_of d) v) where
   raise_line : (t : List ℕ) → length actors ≤ 16 → raise_from t 0 (along dots actors c) ≡ raise_from t 0 (line_of v c)

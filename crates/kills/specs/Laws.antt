@@ -2,14 +2,14 @@
 use Prim.Native.Nat.{ℕ, zero, suc, ◌+◌, ◌*◌, ◌≤◌, ◌<◌, max, compare}
 use Rattle.std.specs.Prelude.{◌≡◌, Bool, ltb, set, replicate}
 use Rattle.std.proofs.Math.Path.{refl, ap}
-use Rattle.std.proofs.Common.{sym, ap₂, ◌∙◌, length_set, length_append, get_or_set_same, get_or_set_other, get_or_append_add, ltb_true, ltb_false}
+use Rattle.std.proofs.Common.{sym, ap₂, ◌∙◌, length-set, length-append, get_or-set_same, get_or-set_other, get_or-append-add, ltb-true, ltb-false}
 use Rattle.std.proofs.Math.Bool.{true, false}
 use mathlib.Core.List.{List, [], ◌∷◌, map}
 use native.Mathlib.Omega.{arith}
-use Rattle.std.proofs.Math.Nat.{zero_add, add_zero}
-use Rattle.std.proofs.Math.ListN.{length, get_or, length_map, get_or_append}
+use Rattle.std.proofs.Math.Nat.{zero-add, add-zero}
+use Rattle.std.proofs.Math.ListN.{length, get_or, length-map, get_or-append}
 use Rattle.std.proofs.lemmas.List.Edits.{sets}
-use Rattle.std.proofs.Math.Seq.{length_sets}
+use Rattle.std.proofs.Math.Seq.{length-sets}
 use Rattle.tables.specs.Order.{nat_lt, lt_nat}
 use Rattle.tables.specs.Table.{pick, get, Asc, Below, All}
 use Rattle.tables.specs.Zip.{Rows, kind, front, Rise, get_after}
@@ -36,7 +36,7 @@ module _ (N : Rows) where
   get_reach k j (r ∷ rs) h = go (ltb (N.key r) k) refl (get_reach k j rs h)
     where
       go : (b : Bool) → ltb (N.key r) k ≡ b → get (kind N) (reach N k rs) j ≡ get (kind N) rs j → get (kind N) (pick b (reach N k rs) (r ∷ rs)) j ≡ get (kind N) (r ∷ rs) j
-      go true e l = let q = ltb_true (N.key r) k e in l ∙ sym (get_after (kind N) r rs j (lt_nat (N.key r) j (omega arith)))
+      go true e l = let q = ltb-true (N.key r) k e in l ∙ sym (get_after (kind N) r rs j (lt_nat (N.key r) j (omega arith)))
       go false e l = refl
 
   front_reach : (k : ℕ) (rs : List N.Row) → k ≤ front N k (reach N k rs)
@@ -45,7 +45,7 @@ module _ (N : Rows) where
     where
       go : (b : Bool) → ltb (N.key r) k ≡ b → k ≤ front N k (reach N k rs) → k ≤ front N k (pick b (reach N k rs) (r ∷ rs))
       go true e l = l
-      go false e l = ltb_false (N.key r) k e
+      go false e l = ltb-false (N.key r) k e
 
   pub along_is : (ks : List ℕ) (rs : List N.Row) → Asc compare ks → Rise N rs → along N ks rs ≡ map (λ k. get (kind N) rs k) ks
   along_is [] rs a r = refl
@@ -66,27 +66,27 @@ module _ (N : Rows) where
 pub length_raise : (t : List ℕ) (p : ℕ) (xs : List ℕ) → length (raise_from t p xs) ≡ length t
 unfolding raise_from
 length_raise t p [] = refl
-length_raise t p (x ∷ xs) = length_raise (set t p (max (get_or t p 0) x)) (suc p) xs ∙ length_set t p (max (get_or t p 0) x)
+length_raise t p (x ∷ xs) = length_raise (set t p (max (get_or t p 0) x)) (suc p) xs ∙ length-set t p (max (get_or t p 0) x)
 
 raise_low : (t : List ℕ) (p : ℕ) (xs : List ℕ) (q : ℕ) → q < p → get_or (raise_from t p xs) q 0 ≡ get_or t q 0
 unfolding raise_from
 raise_low t p [] q h = refl
-raise_low t p (x ∷ xs) q h = raise_low (set t p (max (get_or t p 0) x)) (suc p) xs q (omega arith) ∙ get_or_set_other t p q (max (get_or t p 0) x) 0 (λ e. omega arith)
+raise_low t p (x ∷ xs) q h = raise_low (set t p (max (get_or t p 0) x)) (suc p) xs q (omega arith) ∙ get_or-set_other t p q (max (get_or t p 0) x) 0 (λ e. omega arith)
 
 raise_high : (t : List ℕ) (p : ℕ) (xs : List ℕ) (q : ℕ) → p + length xs ≤ q → get_or (raise_from t p xs) q 0 ≡ get_or t q 0
 unfolding raise_from
 raise_high t p [] q h = refl
-raise_high t p (x ∷ xs) q h = raise_high (set t p (max (get_or t p 0) x)) (suc p) xs q (omega arith) ∙ get_or_set_other t p q (max (get_or t p 0) x) 0 (λ e. omega arith)
+raise_high t p (x ∷ xs) q h = raise_high (set t p (max (get_or t p 0) x)) (suc p) xs q (omega arith) ∙ get_or-set_other t p q (max (get_or t p 0) x) 0 (λ e. omega arith)
 
 raise_here : (t : List ℕ) (p : ℕ) (xs : List ℕ) (j : ℕ) → j < length xs → p + j < length t → get_or (raise_from t p xs) (p + j) 0 ≡ max (get_or t (p + j) 0) (get_or xs j 0)
 unfolding raise_from
 raise_here t p [] j h l = absurd (omega arith)
 raise_here t p (x ∷ xs) zero h l =
-    rw add_zero (raise_low (set t p (max (get_or t p 0) x)) (suc p) xs p (omega arith) ∙ get_or_set_same t p (max (get_or t p 0) x) 0 (omega arith))
+    rw add-zero (raise_low (set t p (max (get_or t p 0) x)) (suc p) xs p (omega arith) ∙ get_or-set_same t p (max (get_or t p 0) x) 0 (omega arith))
 raise_here t p (x ∷ xs) (suc j) h l =
     let e : p + suc j ≡ suc p + j = omega arith in
-    let k : suc p + j < length (set t p (max (get_or t p 0) x)) = rw length_set (omega arith) in
-    rw e (raise_here (set t p (max (get_or t p 0) x)) (suc p) xs j (omega arith) k ∙ ap (λ (y : ℕ). max y (get_or xs j 0)) (get_or_set_other t p (suc p + j) (max (get_or t p 0) x) 0 (λ z. omega arith)))
+    let k : suc p + j < length (set t p (max (get_or t p 0) x)) = rw length-set (omega arith) in
+    rw e (raise_here (set t p (max (get_or t p 0) x)) (suc p) xs j (omega arith) k ∙ ap (λ (y : ℕ). max y (get_or xs j 0)) (get_or-set_other t p (suc p + j) (max (get_or t p 0) x) 0 (λ z. omega arith)))
 
 -- raising lowers nothing
 
@@ -139,7 +139,7 @@ module _ (xs : List ℕ) (wide : length xs ≡ 16) where
   unfolding raised
   raised_at t i [] m j h g l = absurd (omega arith)
   raised_at t i (b ∷ bs) zero j h g l =
-      let e : i + 0 ≡ i = add_zero i in
+      let e : i + 0 ≡ i = add-zero i in
       let l' : 16 * i + j < length t = rw e at l in
       rw e (raised_low (step t i b xs) (suc i) bs (16 * i + j) (omega arith) ∙ step_here t i b j g l')
   raised_at t i (b ∷ bs) (suc m) j h g l =
@@ -166,7 +166,7 @@ sets_front (y ∷ t) (x ∷ xs) (suc j) h l = ap (λ (r : List ℕ). get_or r (s
 
 length_line : (v c : Clock) → length (line_of v c) ≡ 16
 unfolding line_of
-length_line v c = length_sets (replicate 16 0) 0 (along dots (map (λ d. actor_of d) v) c)
+length_line v c = length-sets (replicate 16 0) 0 (along dots (map (λ d. actor_of d) v) c)
 
 length_lines : (v : Clock) (ms : List ℕ) (ws : List Wait) (t : List ℕ) → length (kill_lines v ms ws t) ≡ length t
 unfolding kill_lines
@@ -177,7 +177,7 @@ length_lines v ms (w ∷ ws) t =
 
 pub length_table : (v : Clock) (ms : List ℕ) (ws : List Wait) (floor t : List ℕ) → length (kill_table v ms ws floor t) ≡ length t
 unfolding kill_table
-length_table v ms ws floor t = length_lines v ms ws (sets t 0 (spread (length ms) floor)) ∙ length_sets t 0 (spread (length ms) floor)
+length_table v ms ws floor t = length_lines v ms ws (sets t 0 (spread (length ms) floor)) ∙ length-sets t 0 (spread (length ms) floor)
 
 module _ (v : Clock) (ms : List ℕ) (va : Rise dots v) (ma : Asc compare ms) (few : length v ≤ 16) where
   actors : List ℕ
@@ -187,7 +187,7 @@ module _ (v : Clock) (ms : List ℕ) (va : Rise dots v) (ma : Asc compare ms) (f
   unfolding line_of actors
   line_at c r j h =
       let e = along_is dots (map (λ d. actor_of d) v) c va r in
-      let n : length (map (λ a. count c a) (map (λ d. actor_of d) v)) ≡ length v = simp length_map in
+      let n : length (map (λ a. count c a) (map (λ d. actor_of d) v)) ≡ length v = simp length-map in
       rw e (sets_front (replicate 16 0) (map (λ a. count c a) (map (λ d. actor_of d) v)) j (omega arith) (omega arith)
       ∙ pointwise v j h)
     where
@@ -214,7 +214,7 @@ module _ (v : Clock) (ms : List ℕ) (va : Rise dots v) (ma : Asc compare ms) (f
       let wide = length_line v w.clock in
       let l' : 16 * m + j < length (raised t 0 bs L) = rw (length_raised L wide t 0 bs) l in
       let n = length_along member_rows ms w.members in
-      let z : 0 + m ≡ m = zero_add m in
+      let z : 0 + m ≡ m = zero-add m in
       let l0 : 16 * (0 + m) + j < length t = rw z l in
       let e = rw z at (raised_at L wide t 0 bs m j (omega arith) (omega arith) l0) in
       let f : get_or (raised t 0 bs L) (16 * m + j) 0 ≡ max (get_or t (16 * m + j) 0) (pick (get member_sets w.members (get_or ms m 0)) (count w.clock (actor_of (get_or v j no_dot))) 0) =
@@ -236,7 +236,7 @@ module _ (v : Clock) (ms : List ℕ) (va : Rise dots v) (ma : Asc compare ms) (f
       let L = line_of v w.clock in
       let n : length (raise_from t 0 L) ≡ 16 = length_raise t 0 L ∙ l in
       let wide = length_line v w.clock in
-      let z = zero_add j in
+      let z = zero-add j in
       let e : get_or (raise_from t 0 L) j 0 ≡ max (get_or t j 0) (get_or L j 0) = rw z at (raise_here t 0 L j (omega arith) (rw z (omega arith))) in
       let f = line_at w.clock o.0.clock_asc j h in
       let g = top_grows ws (raise_from t 0 L) j in
@@ -253,15 +253,15 @@ module _ (v : Clock) (ms : List ℕ) (va : Rise dots v) (ma : Asc compare ms) (f
 length_spread : (n : ℕ) (floor : List ℕ) → length floor ≡ 16 → length (spread n floor) ≡ 16 * n
 unfolding spread
 length_spread zero floor l = refl
-length_spread (suc n) floor l = rw length_append (let r = length_spread n floor l in omega arith)
+length_spread (suc n) floor l = rw length-append (let r = length_spread n floor l in omega arith)
 
 spread_at : (n : ℕ) (floor : List ℕ) (i j : ℕ) → length floor ≡ 16 → i < n → j < 16 → get_or (spread n floor) (16 * i + j) 0 ≡ get_or floor j 0
 unfolding spread
 spread_at zero floor i j l h k = absurd (omega arith)
-spread_at (suc n) floor zero j l h k = rw zero_add (get_or_append floor (spread n floor) 0 j (omega arith))
+spread_at (suc n) floor zero j l h k = rw zero-add (get_or-append floor (spread n floor) 0 j (omega arith))
 spread_at (suc n) floor (suc i) j l h k =
     let e : 16 * suc i + j ≡ length floor + (16 * i + j) = omega arith in
-    rw e (get_or_append_add floor (spread n floor) (16 * i + j) 0 ∙ spread_at n floor i j l (omega arith) k)
+    rw e (get_or-append-add floor (spread n floor) (16 * i + j) 0 ∙ spread_at n floor i j l (omega arith) k)
 
 pub spread_front : (t floor : List ℕ) (n i j : ℕ) → length floor ≡ 16 → i < n → j < 16 → 16 * i + j < length t → get_or (sets t 0 (spread n floor)) (16 * i + j) 0 ≡ get_or floor j 0
 spread_front t floor n i j l h u k = let e = length_spread n floor l in sets_front t (spread n floor) (16 * i + j) (omega arith) (omega arith) ∙ spread_at n floor i j l h u
@@ -271,7 +271,7 @@ pub kill_numbers : (v : Clock) (ms : List ℕ) → Rise dots v → Asc compare m
     → (m j : ℕ) → m < length ms → j < length v → get_or (kill_table v ms ws floor t) (16 * m + j) 0 ≡ max (get_or floor j 0) (kills_of ws (get_or ms m 0) (actor_of (get_or v j no_dot)))
 unfolding kill_table
 kill_numbers v ms va ma few floor t l n ws o m j h g =
-    let k : length (sets t 0 (spread (length ms) floor)) ≡ length t = length_sets t 0 (spread (length ms) floor) in
+    let k : length (sets t 0 (spread (length ms) floor)) ≡ length t = length-sets t 0 (spread (length ms) floor) in
     let z = spread_front t floor (length ms) m j l h (omega arith) (omega arith) in
     let r = kill_at v ms va ma few ws (sets t 0 (spread (length ms) floor)) m j o h g (omega arith) in
     omega arith

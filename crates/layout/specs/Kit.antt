@@ -1,10 +1,10 @@
 -- What code goes by: one turn along a list in bytes, from either end; the thing at a place; and what each test of a pass says.
 use Rattle.std.specs.Prelude.{◌≡◌, Bool, true, T, length, get_or, take, drop}
 use Rattle.std.proofs.Math.Path.{refl, ap}
-use Rattle.std.proofs.Common.{sym, arith, mul_zero, mul_suc, leb→le, ltb→lt, length_append, take_at, le_leb}
+use Rattle.std.proofs.Common.{sym, arith, mul-zero, mul-suc, leb→le, ltb→lt, length-append, take_at, le-leb}
 use mathlib.Core.List.{List, [], ◌∷◌, ◌++◌, append_assoc}
 use Prim.Native.Nat.{ℕ, suc, zero, ◌+◌, ◌*◌, ◌≤◌, ◌<◌}
-use Rattle.std.proofs.Math.Numerals.{add_one}
+use Rattle.std.proofs.Math.Numerals.{add-one}
 use Rattle.tables.specs.Table.{Normal}
 use Rattle.tables.specs.Truth.{and_l, and_r, and_i}
 use Rattle.tables.specs.Ascending.{is_lt}
@@ -26,22 +26,22 @@ use Rattle.layout.specs.Form.{Form, Faithful, length_list_at, span_list}
 module _ (end : List ℕ → ℕ → ℕ) (s : List ℕ) (p k j : ℕ) (e : k ≡ j + 1) where
   pub list_step : {R : Type 0} (here : List ℕ → ℕ → R) → list_at here end s p k ≡ here s p ∷ list_at here end s (end s p) j
   unfolding list_at
-  list_step here = rw (e, add_one)
+  list_step here = rw (e, add-one)
 
   pub starts_step : starts_at end s p k ≡ p ∷ starts_at end s (end s p) j
   unfolding starts_at
-  starts_step = rw (e, add_one)
+  starts_step = rw (e, add-one)
 
   pub end_step : end_after end s p k ≡ end_after end s (end s p) j
   unfolding end_after
-  end_step = rw (e, add_one)
+  end_step = rw (e, add-one)
 
 -- ---- one turn at the back
 
 module _ (end : List ℕ → ℕ → ℕ) (s : List ℕ) where
   pub end_next : (p n : ℕ) → end_after end s p (n + 1) ≡ end s (end_after end s p n)
   unfolding end_after
-  end_next p n = rw add_one (go p n)
+  end_next p n = rw add-one (go p n)
     where
       go : (p n : ℕ) → end_after end s p (suc n) ≡ end s (end_after end s p n)
       go p zero = refl
@@ -49,7 +49,7 @@ module _ (end : List ℕ → ℕ → ℕ) (s : List ℕ) where
 
   pub starts_next : (p n : ℕ) → starts_at end s p (n + 1) ≡ starts_at end s p n ++ end_after end s p n ∷ []
   unfolding starts_at end_after
-  starts_next p n = rw add_one (go p n)
+  starts_next p n = rw add-one (go p n)
     where
       go : (p n : ℕ) → starts_at end s p (suc n) ≡ starts_at end s p n ++ end_after end s p n ∷ []
       go p zero = refl
@@ -70,7 +70,7 @@ module _ (end : List ℕ → ℕ → ℕ) (s : List ℕ) where
   module _ {R : Type 0} (here : List ℕ → ℕ → R) where
     pub list_next : (p n : ℕ) → list_at here end s p (n + 1) ≡ list_at here end s p n ++ here s (end_after end s p n) ∷ []
     unfolding list_at end_after
-    list_next p n = rw add_one (go p n)
+    list_next p n = rw add-one (go p n)
       where
         go : (p n : ℕ) → list_at here end s p (suc n) ≡ list_at here end s p n ++ here s (end_after end s p n) ∷ []
         go p zero = refl
@@ -114,27 +114,27 @@ length_clock_at s at = length_list_at (dot_in narrow) (λ s p. p + 12) s (at + 4
 -- things of one width
 pub length_steady : {R : Type 0} (put : R → List ℕ) (w : ℕ) (rs : List R) → ((r : R) → length (put r) ≡ w) → length (bytes_of put rs) ≡ w * length rs
 unfolding bytes_of
-length_steady put w [] h = sym (mul_zero w)
-length_steady put w (r ∷ rs) h = let e = mul_suc w (length rs) in let k = h r in simp (length_append, length_steady put w rs h) (omega arith)
+length_steady put w [] h = sym (mul-zero w)
+length_steady put w (r ∷ rs) h = let e = mul-suc w (length rs) in let k = h r in simp (length-append, length_steady put w rs h) (omega arith)
 
 pub length_encode_dots : (c : Clock) → length (encode_dots c) ≡ 12 * length c
 unfolding encode_dot_in
-length_encode_dots c = length_steady encode_dot 12 c (λ d. simp (length_append, length_le32, length_le64))
+length_encode_dots c = length_steady encode_dot 12 c (λ d. simp (length-append, length_le32, length_le64))
 
 pub length_encode_members : (ms : List ℕ) → length (encode_members ms) ≡ 4 * length ms
 length_encode_members ms = length_steady le32 4 ms length_le32
 
 pub length_encode_clock : (c : Clock) → length (encode_clock c) ≡ 4 + 12 * length c
 unfolding encode_clock_in
-length_encode_clock c = simp (length_append, length_le32, length_encode_dots)
+length_encode_clock c = simp (length-append, length_le32, length_encode_dots)
 
 pub length_encode_row : (e : Entry) → length (encode_row e) ≡ 8 + 12 * length e.clock
 unfolding encode_row_in
-length_encode_row e = simp (length_append, length_le32, length_encode_clock) (omega arith)
+length_encode_row e = simp (length-append, length_le32, length_encode_clock) (omega arith)
 
 pub length_encode_wait : (w : Wait) → length (encode_wait w) ≡ 8 + 12 * length w.clock + 4 * length w.members
 unfolding encode_wait_in
-length_encode_wait w = simp (length_append, length_le32, length_encode_clock, length_encode_members) (omega arith)
+length_encode_wait w = simp (length-append, length_le32, length_encode_clock, length_encode_members) (omega arith)
 
 -- ---- what the tests say
 
@@ -166,7 +166,7 @@ stands s at e =
 pub stands_good : (s : List ℕ) (at : ℕ) → Stands s at → good_clock s at ≡ true
 unfolding good_clock_in clock_end_in
 stands_good s at w =
-    rw (le_leb (at + 4) (length s) (omega arith), le_leb (u32_at s at) 16 w.count, le_leb (at + (4 + 12 * u32_at s at)) (length s) w.room) w.rises
+    rw (le-leb (at + 4) (length s) (omega arith), le-leb (u32_at s at) 16 w.count, le-leb (at + (4 + 12 * u32_at s at)) (length s) w.room) w.rises
 
 pub clock_room : (s : List ℕ) (at : ℕ) → Stands s at → clock_end s at ≤ length s
 unfolding clock_end_in

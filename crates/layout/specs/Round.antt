@@ -2,7 +2,7 @@
 -- written can be read and says what was written. Neither asks for well-formed values.
 use Rattle.std.specs.Prelude.{◌≡◌, ℕ, ◌+◌, ◌^◌, ◌≤◌, ◌<◌, T, eqb}
 use Rattle.std.proofs.Math.Path.{sym, ap, ap₂}
-use Rattle.std.proofs.Common.{◌∙◌, arith, leb→le, eqb→eq, le→leb, eq_eqb, length_append}
+use Rattle.std.proofs.Common.{◌∙◌, arith, leb→le, eqb→eq, le→leb, eq-eqb, length-append}
 use mathlib.Core.List.{List, ◌++◌}
 use Rattle.std.proofs.Math.ListN.{length}
 use Rattle.tables.specs.Table.{alls_from, alls_to}
@@ -22,7 +22,7 @@ use Rattle.layout.specs.Parts.{Sound, row_form, wait_form, faithful_clock, faith
 
 pub length_contents : (t a m b n : ℕ) → length (contents t a m b n) ≡ 24
 unfolding contents
-length_contents t a m b n = simp (length_append, length_le16, length_le32)
+length_contents t a m b n = simp (length-append, length_le16, length_le32)
 
 -- what the contents of s say
 pub record Says (s : List ℕ) (t a m b n : ℕ) : Type 0 where
@@ -98,7 +98,7 @@ pub record Readable (A : Width) (s : List ℕ) : Type 0 where
   pub end_ok : length s ≡ end_after (wait_end_in A) s (waits_start_at s) (waits_count s)
 
 pub same : (m n : ℕ) → m ≡ n → T (eqb m n)
-same m n e = rw (eq_eqb m n e) tt
+same m n e = rw (eq-eqb m n e) tt
 
 pub readable_from : (A : Width) (s : List ℕ) → T (readable_in A s) → Readable A s
 unfolding readable_in
@@ -145,7 +145,7 @@ module _ (A : Width) where
 
   pub length_encode : (r : Replica) → length (encode_in A r) ≡ length_of A r
   unfolding encode_in contents_of length_of waits_from rows_from
-  length_encode r = simp (length_append, length_contents) (omega arith)
+  length_encode r = simp (length-append, length_contents) (omega arith)
 
 module _ (A : Width) (W : Sound A) where
   abbrev vs : Replica → List ℕ

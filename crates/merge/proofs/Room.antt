@@ -4,7 +4,7 @@ use mathlib.Core.Path.{◌≡◌, sym}
 use mathlib.Core.List.{List}
 use native.Mathlib.Omega.{arith}
 use lib.ListN.{length, take}
-use lib.Seq.{length_take_le}
+use lib.Seq.{length-take-le}
 use Rattle.tables.specs.Ascending.{before, ascending}
 use Rattle.replica.specs.Limits.{full}
 use Rattle.results.specs.declared.Written.{Written}
@@ -18,4 +18,4 @@ module _ (a b out after : List ℕ) (w : Written) (meets : Meets full (merge_cal
   inside = let g = granted_writes full (merge_call a b) out w after meets tt done in omega (arith, g.room, g.length_kept)
 
   pub counted : w.len ≡ length (take w.len after)
-  counted = sym (length_take_le w.len after inside)
+  counted = sym (length-take-le w.len after inside)

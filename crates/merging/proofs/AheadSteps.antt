@@ -3,7 +3,7 @@ use Prim.Native.Nat.{ℕ, zero, suc, ◌<◌}
 use mathlib.Core.Path.{◌≡◌, refl}
 use mathlib.Core.List.{List}
 use native.Mathlib.Omega.{arith}
-use borrow.Author.Tests.{eq_eqb, ne_eqb}
+use borrow.Author.Tests.{eq-eqb, ne_eqb}
 use Rattle.layout.specs.Fields.{u32_at}
 use Rattle.merging.specs.Ahead.{key_ahead, KeyAhead, Met}
 
@@ -23,7 +23,7 @@ met_none s p n key k e = record { small = k; is = λ l. rw (e, ne_eqb 4294967296
 pub met_yes : (s : List ℕ) (p n key : ℕ) → key < 4294967296 → (n ≡ 0 → ⊥) → u32_at s p ≡ key → Met s p n key 1
 unfolding key_ahead
 met_yes s p zero key k h e = absurd (h refl)
-met_yes s p (suc n) key k h e = record { small = k; is = λ l. rw (eq_eqb (u32_at s p) key e); one = omega arith; fits = omega arith }
+met_yes s p (suc n) key k h e = record { small = k; is = λ l. rw (eq-eqb (u32_at s p) key e); one = omega arith; fits = omega arith }
 
 pub met_no : (s : List ℕ) (p n key : ℕ) → key < 4294967296 → (n ≡ 0 → ⊥) → (u32_at s p ≡ key → ⊥) → Met s p n key 0
 unfolding key_ahead

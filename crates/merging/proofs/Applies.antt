@@ -6,9 +6,9 @@ use mathlib.Core.Option.{Option}
 use mathlib.Core.List.{List, [], ◌∷◌, map}
 use native.Mathlib.Omega.{arith}
 use lib.Dec.{T, eqb, ltb, leb, le→leb, lt→ltb}
-use lib.ListN.{length, take, replicate, length_take, length-replicate}
+use lib.ListN.{length, take, replicate, length-take, length-replicate}
 use lib.Seq.{sets}
-use borrow.Author.Tests.{ltb_false, lt_ltb, le_ltb, le_leb, lt_leb}
+use borrow.Author.Tests.{ltb-false, lt-ltb, le-ltb, le-leb, lt-leb}
 use Rattle.tables.specs.Table.{Normal, Proper, Asc, pick, cons?, all_any, map_id}
 use Rattle.tables.specs.Truth.{and_i}
 use Rattle.tables.specs.Refusal.{first_of}
@@ -84,14 +84,14 @@ module _ (s : List ℕ) (op : Operation) (c : VClock) (ms before : List ℕ) (r 
 
     pub long_list : normalised c ≡ true → 64 < length ms → r ≡ answered 4 0 → Meets full (apply_call s op c ms) before r before
     unfolding number_of apply_call unfit_arguments first_of
-    long_list n l e = refused_meets (apply_call s op c ms) before 4 r e (λ z. omega arith) (rw ((image_good s x cx true g).0, n, lt_ltb 64 (length ms) l))
+    long_list n l e = refused_meets (apply_call s op c ms) before 4 r e (λ z. omega arith) (rw ((image_good s x cx true g).0, n, lt-ltb 64 (length ms) l))
 
     module _ (n : normalised c ≡ true) (l : length ms ≤ 64) (after : List ℕ) where
       arguments_pass : Meets full (granted (operated op (dots_of c) ms (image_of s))) before r after → Meets full (apply_call s op c ms) before r after
       unfolding number_of answer_of output_of apply_call unfit_arguments first_of
       arguments_pass k = record {
-        answer = k.answer ∙ rw ((image_good s x cx true g).0, n, le_ltb 64 (length ms) l);
-        output = k.output ∙ rw ((image_good s x cx true g).0, n, le_ltb 64 (length ms) l);
+        answer = k.answer ∙ rw ((image_good s x cx true g).0, n, le-ltb 64 (length ms) l);
+        output = k.output ∙ rw ((image_good s x cx true g).0, n, le-ltb 64 (length ms) l);
       }
 
       pub add_passes : (d : Dot) → op ≡ AnAdd d → Meets full (granted (add d ms (image_of s))) before r after → Meets full (apply_call s op c ms) before r after
@@ -189,8 +189,8 @@ module _ (s : List ℕ) (x : Image) (cx : x ≡ check_image s) (g : x.good ≡ t
     side_sound = record {
       clock_ok = S.normal;
       members_ok = record { asc = rw map_id S.asc; proper = all_any (Proper member_sets) (list_of m) (λ k. refl) };
-      few = let f = S.few in simp length_take (omega arith);
-      named = let k = S.many in simp length_take (omega arith);
+      few = let f = S.few in simp length-take (omega arith);
+      named = let k = S.many in simp length-take (omega arith);
     }
 
     module _ (y : Image) (Y : Brings B (encode B) y) (l : ℕ) (one : l ≤ 1) where
@@ -228,7 +228,7 @@ module _ (s : List ℕ) (x : Image) (cx : x ≡ check_image s) (g : x.good ≡ t
           normal_v.asc,
           omega arith,
           goes_image (dots_of v) normal_v s good av,
-          goes_brought (dots_of v) normal_v (dots_of c) (take n m.at) S.normal (λ h. ac (let k = length_take n m.at in omega arith)),
+          goes_brought (dots_of v) normal_v (dots_of c) (take n m.at) S.normal (λ h. ac (let k = length-take n m.at in omega arith)),
           good,
           ap (λ (z : Image). z.waits) told,
         )
@@ -262,7 +262,7 @@ module _ (s : List ℕ) (x : Image) (cx : x ≡ check_image s) (g : x.good ≡ t
       remove_formed : broken full (remove (dots_of c) ms A) ≡ 0 → T (well_formed full (remove (dots_of c) ms A))
       unfolding step fits apply
       remove_formed e = step_well_formed full (Apply (Remove (dots_of c) ms)) A
-          (and_i (normal (dots_of c)) (leb (length (dots_of c)) 16) (normal_to (dots_of c) (dots_normal c nc)) (le→leb (length (dots_of c)) 16 (let f = few c nc in simp length_take (omega arith)))) formed e
+          (and_i (normal (dots_of c)) (leb (length (dots_of c)) 16) (normal_to (dots_of c) (dots_normal c nc)) (le→leb (length (dots_of c)) 16 (let f = few c nc in simp length-take (omega arith)))) formed e
 
       pub remove_meets : (v settled : VClock) (l : ℕ) (before : List ℕ) (r : Written) (after : List ℕ) → v ≡ x.clock → settled ≡ vclock [] → l ≡ pick (covers (dots_of v) (dots_of c)) 0 1
           → FinishedOf (kept_entries (map (λ d. actor_of d) (dots_of v)) A (side_of c m 0)) (kept_waits (dots_of settled) A.waiting (take l (side_of c m 0).waiting)) v before r after
@@ -305,14 +305,14 @@ module _ (s : List ℕ) (x : Image) (cx : x ≡ check_image s) (g : x.good ≡ t
       unfolding covers
       add_covered h none en before r after k =
           let l = counter_is in
-          let seen : covers A.clock (d ∷ []) ≡ true = rw (le_leb d.counter (count A.clock (actor_of d)) (omega arith)) in
+          let seen : covers A.clock (d ∷ []) ≡ true = rw (le-leb d.counter (count A.clock (actor_of d)) (omega arith)) in
           subst (λ (R : Replica). Meets full (granted R) before r after)
           (ap (λ (c : VClock). remove (dots_of c) ms A) en ∙ ap (λ (c : Clock). remove c ms A) (dots_vclock [] (omega arith)) ∙ remove_empty ms A well ∙ sym (add_seen d ms A seen)) k
 
       module _ (above : a.counter < d.counter) (w : ClockAnswer) (ew : w ≡ clockApply x.clock d) where
         new : covers A.clock (d ∷ []) ≡ false
         unfolding covers
-        new = let l = counter_is in rw (lt_leb d.counter (count A.clock (actor_of d)) (omega arith))
+        new = let l = counter_is in rw (lt-leb d.counter (count A.clock (actor_of d)) (omega arith))
 
         answer_is : w ≡ clock_answer (first_of (crowded (applied A.clock d) ∷ [])) (applied A.clock d)
         unfolding clockApply first_of
@@ -353,7 +353,7 @@ module _ (s : List ℕ) (x : Image) (cx : x ≡ check_image s) (g : x.good ≡ t
               where
                 go : (b : Bool) → ltb 16 (length (applied A.clock d)) ≡ b → w.no ≡ pick b 6 0 → w.clock ≡ vclock (pick (eqb (pick b 6 0) 0) (applied A.clock d) []) → OwnClock (add d ms A) w.clock
                 go true e f g = absurd (omega arith)
-                go false e f g = own_clock (add d ms A) w.clock (rw added_clock (ltb_false 16 (length (applied A.clock d)) e)) (rw added_clock (applied_normal A.clock d)) (g ∙ ap vclock (sym added_clock))
+                go false e f g = own_clock (add d ms A) w.clock (rw added_clock (ltb-false 16 (length (applied A.clock d)) e)) (rw added_clock (applied_normal A.clock d)) (g ∙ ap vclock (sym added_clock))
 
             -- it counts all that the old one and the dot do
             pub added_along : Along (dots_of w.clock) A.clock × Along (dots_of w.clock) (dots_of c)

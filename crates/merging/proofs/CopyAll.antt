@@ -6,7 +6,7 @@ use mathlib.Core.List.{List, [], ◌∷◌}
 use native.Mathlib.Omega.{arith}
 use lib.ListN.{length}
 use lib.Seq.{sets, slice}
-use borrow.Author.Tests.{le_ltb}
+use borrow.Author.Tests.{le-ltb}
 use Rattle.tables.specs.Table.{All}
 use Rattle.dots.specs.Clock.{covers}
 use Rattle.dots.specs.ClockLaws.{normal_empty, normal_to}
@@ -58,7 +58,7 @@ module _ (s : List ℕ) (g : good_image s ≡ true) where
       record {
         count = en ∙ sym e;
         ends = omega arith;
-        most = sym (le_ltb 32 (most_named ws) (most_few ws P.formed.waits_ok));
+        most = sym (le-ltb 32 (most_named ws) (most_few ws P.formed.waits_ok));
         few = omega arith;
         room = omega arith;
         bytes = f ∙ ap (sets out at) all;

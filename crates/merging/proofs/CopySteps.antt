@@ -3,8 +3,8 @@ use Prim.Native.Nat.{ℕ, suc, ◌+◌, ◌*◌, ◌-◌, ◌≤◌, ◌<◌}
 use mathlib.Core.Path.{◌≡◌, sym, ap₂, ◌∙◌, subst}
 use mathlib.Core.List.{List, ◌∷◌, ◌++◌}
 use native.Mathlib.Omega.{arith}
-use lib.ListN.{length, take, drop, length_append}
-use lib.Seq.{slice, take-add, drop_at, length_take_le}
+use lib.ListN.{length, take, drop, length-append}
+use lib.Seq.{slice, take-add, drop_at, length-take-le}
 use Rattle.layout.specs.Fields.{Bytes, u32_at, le32}
 use Rattle.layout.specs.Held.{Holds, holds_left, holds_right}
 use Rattle.layout.specs.Lists.{list_at}
@@ -15,7 +15,7 @@ use Rattle.layout.specs.Parts.{clock_laws, wait_laws}
 
 -- a part of the bytes that holds e is e
 pub copied_is : (s : List ℕ) (p end : ℕ) (e : List ℕ) → Holds s p e → p ≤ length s → end ≡ p + length e → slice p end s ≡ e
-copied_is s p end e h k q = rw (q, take-add p (length e) s) (drop_at (take p s) (take (length e) (drop p s)) p (length_take_le p s k) ∙ part_is s p e h)
+copied_is s p end e h k q = rw (q, take-add p (length e) s) (drop_at (take p s) (take (length e) (drop p s)) p (length-take-le p s k) ∙ part_is s p e h)
 
 -- members after their count
 abbrev pub counted_at : List ℕ → ℕ → List ℕ
@@ -48,7 +48,7 @@ module _ (s : List ℕ) (p : ℕ) (b : Bytes s) (r : wait_end s p ≤ length s) 
   unfolding wait_in encode_wait_in
   members_copied =
       let h : Holds s (clock_end s p) counted = subst (λ (i : ℕ). Holds s i counted) (sym clock_long) (holds_right s p (encode_clock (clock_at s p)) counted wait_holds) in
-      let l : length (encode_clock (clock_at s p) ++ counted) ≡ length (encode_clock (clock_at s p)) + length counted = length_append (encode_clock (clock_at s p)) counted in
+      let l : length (encode_clock (clock_at s p) ++ counted) ≡ length (encode_clock (clock_at s p)) + length counted = length-append (encode_clock (clock_at s p)) counted in
       let c = clock_long in
       let w = wait_long in
       copied_is s (clock_end s p) (wait_end s p) counted h (omega arith) (omega arith)

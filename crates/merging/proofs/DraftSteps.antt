@@ -3,12 +3,12 @@ use Prim.Native.Nat.{ℕ, zero, suc, ◌+◌, ◌*◌, ◌-◌, ◌≤◌, ◌<�
 use mathlib.Core.Path.{◌≡◌, refl, sym, ap, ap₂, ◌∙◌}
 use mathlib.Core.List.{List, [], ◌∷◌, ◌++◌, map}
 use native.Mathlib.Omega.{arith}
-use native.Mathlib.Nat.{add_zero, zero_add}
-use native.Mathlib.Numerals.{add_one}
+use native.Mathlib.Nat.{add-zero, zero-add}
+use native.Mathlib.Numerals.{add-one}
 use lib.Dec.{ltb}
-use lib.ListN.{length, take, set, get_or, length_map, length_take}
-use lib.Seq.{sets, take-suc, take-suc-set, get_or_set_same, get_or_set_other, get_or-take}
-use borrow.Author.Tests.{lt_ltb}
+use lib.ListN.{length, take, set, get_or, length-map, length-take}
+use lib.Seq.{sets, take-suc, take-suc-set, get_or-set_same, get_or-set_other, get_or-take}
+use borrow.Author.Tests.{lt-ltb}
 use Rattle.dots.specs.declared.Dot.{Dot}
 use Rattle.dots.specs.Dot.{actor_of, no_dot}
 use Rattle.dots.specs.Clock.{Clock, count}
@@ -49,8 +49,8 @@ count_begin s p n a = let e : n - 0 ≡ n = omega arith in let f : p + 12 * 0 �
 pub counts_on : (c : Clock) (vs line : List ℕ) (i x : ℕ) → Counts c vs i line → i < length line → x ≡ count c (get_or vs i 0) → Counts c vs (i + 1) (set line i x)
 counts_on c vs line i x k h e = record {
   is = λ j l. by_eq j i
-      (λ z. rw z (get_or_set_same line i x 0 h ∙ e))
-      (λ z. get_or_set_other line i j x 0 z ∙ k.is j (omega arith));
+      (λ z. rw z (get_or-set_same line i x 0 h ∙ e))
+      (λ z. get_or-set_other line i j x 0 z ∙ k.is j (omega arith));
 }
 
 pub counts_none : (c : Clock) (vs line : List ℕ) → Counts c vs 0 line
@@ -64,7 +64,7 @@ map_snoc f (x ∷ xs) d = ap (λ (l : List ℕ). f x ∷ l) (map_snoc f xs d)
 pub taken_on : (f : Dot → ℕ) (ds : List Dot) (vs : List ℕ) (i : ℕ) → take i vs ≡ map f (take i ds) → i < length vs → i < length ds
     → take (i + 1) (set vs i (f (get_or ds i no_dot))) ≡ map f (take (i + 1) ds)
 taken_on f ds vs i z h k =
-    rw (add_one, take-suc-set vs i (f (get_or ds i no_dot)) h, take-suc ds i no_dot k, map_snoc) (ap (λ (l : List ℕ). l ++ (f (get_or ds i no_dot) ∷ [])) z)
+    rw (add-one, take-suc-set vs i (f (get_or ds i no_dot)) h, take-suc ds i no_dot k, map_snoc) (ap (λ (l : List ℕ). l ++ (f (get_or ds i no_dot) ∷ [])) z)
 
 number_at : (f : Dot → ℕ) → f no_dot ≡ 0 → (ds : List Dot) (i : ℕ) → get_or (map f ds) i 0 ≡ f (get_or ds i no_dot)
 number_at f z [] i = sym z
@@ -80,16 +80,16 @@ dots_along : (ds : Clock) (vs cs : List ℕ) (k : ℕ) → ((i : ℕ) → i < le
 unfolding dots_from
 dots_along [] vs cs k f g = refl
 dots_along (d ∷ ds) vs cs k f g =
-    let x : get_or vs k 0 ≡ actor_of d = rw add_zero at (f 0 (omega arith)) in
-    let y : get_or cs k 0 ≡ d.counter = rw add_zero at (g 0 (omega arith)) in
+    let x : get_or vs k 0 ≡ actor_of d = rw add-zero at (f 0 (omega arith)) in
+    let y : get_or cs k 0 ≡ d.counter = rw add-zero at (g 0 (omega arith)) in
     ap₂ ◌∷◌ (λ i. record { actor = record { 0 = x i }; counter = y i })
     (dots_along ds vs cs (k + 1) (λ i l. let e : k + 1 + i ≡ k + suc i = omega arith in rw e (f (suc i) (omega arith))) (λ i l. let e : k + 1 + i ≡ k + suc i = omega arith in rw e (g (suc i) (omega arith))))
 
 module _ (v : VClock) (vs : List ℕ) (long : length vs ≡ 16) (few : v.len ≤ 16) (e : take v.len vs ≡ map (λ d. actor_of d) (dots_of v)) where
   pub clock_long : length (dots_of v) ≡ v.len
   clock_long =
-      let x : length (take v.len vs) ≡ v.len = simp length_take (omega arith) in
-      let y : length (map (λ d. actor_of d) (dots_of v)) ≡ length (dots_of v) = simp length_map in
+      let x : length (take v.len vs) ≡ v.len = simp length-take (omega arith) in
+      let y : length (map (λ d. actor_of d) (dots_of v)) ≡ length (dots_of v) = simp length-map in
       sym y ∙ sym (ap length e) ∙ x
 
   -- the actors and the counters of a clock are the clock
@@ -97,7 +97,7 @@ module _ (v : VClock) (vs : List ℕ) (long : length vs ≡ 16) (few : v.len ≤
   clock_again cs f =
       let n = clock_long in
       ap (dots_from vs cs 0) (sym clock_long)
-      ∙ dots_along (dots_of v) vs cs 0 (λ i l. rw (zero_add i) (taken_at (λ d. actor_of d) refl (dots_of v) vs v.len e i (omega arith))) (λ i l. rw (zero_add i) (taken_at (λ d. d.counter) refl (dots_of v) cs v.len f i (omega arith)))
+      ∙ dots_along (dots_of v) vs cs 0 (λ i l. rw (zero-add i) (taken_at (λ d. actor_of d) refl (dots_of v) vs v.len e i (omega arith))) (λ i l. rw (zero-add i) (taken_at (λ d. d.counter) refl (dots_of v) cs v.len f i (omega arith)))
 
 pub draft_of : (es : List Entry) (ws : List Wait) (start : ℕ) (out mid out' : List ℕ) (n at most : ℕ) (w : Waits) → WroteRows out start es mid n at → WroteWaits mid at ws out' w → ltb 32 most ≡ ltb 32 w.most
     → DraftOf es ws start (record { entries = n; waits = w.n; most = most; middle = at; end = w.at }) out out'
@@ -111,4 +111,4 @@ draft_of es ws start out mid out' n at most w r k m = record {
 }
 
 pub capped_many : (x : ℕ) → 33 ≤ x → ltb 32 33 ≡ ltb 32 x
-capped_many x h = sym (lt_ltb 32 x (omega arith))
+capped_many x h = sym (lt-ltb 32 x (omega arith))

@@ -4,10 +4,10 @@ use mathlib.Core.Path.{◌≡◌, refl, sym, ap, ap₂, ◌∙◌}
 use mathlib.Core.Bool.{Bool, true, false}
 use mathlib.Core.List.{List, [], ◌∷◌, ◌++◌}
 use native.Mathlib.Omega.{arith}
-use native.Mathlib.Nat.{add_zero, zero_add, mul_zero}
+use native.Mathlib.Nat.{add-zero, zero-add, mul-zero}
 use lib.Dec.{eqb}
-use lib.ListN.{length, get_or, length_append}
-use lib.Seq.{sets, length_sets}
+use lib.ListN.{length, get_or, length-append}
+use lib.Seq.{sets, length-sets}
 use Rattle.tables.specs.Table.{pick, cons?}
 use Rattle.tables.specs.Zip.{said, past}
 use Rattle.dots.specs.declared.Dot.{Dot}
@@ -25,12 +25,12 @@ use Rattle.merging.specs.Keeping.{dot_list, KeptDot, KeptDots, lines_from, kept_
 
 length_dot : (d : Dot) → length (encode_dot d) ≡ 12
 unfolding encode_dot_in
-length_dot d = simp (length_append, length_le32, length_le64)
+length_dot d = simp (length-append, length_le32, length_le64)
 
 pub length_dots : (c : Clock) → length (encode_dots c) ≡ 12 * length c
 unfolding bytes_of
 length_dots [] = refl
-length_dots (d ∷ c) = let e = length_dots c in let f = length_dot d in simp length_append (omega arith)
+length_dots (d ∷ c) = let e = length_dots c in let f = length_dot d in simp length-append (omega arith)
 
 pub dot_none : (a n : ℕ) → n ≡ 0 → dot_list a n ≡ []
 dot_none a n e = rw e
@@ -38,11 +38,11 @@ dot_none a n e = rw e
 pub dot_bytes : (a n : ℕ) → (n ≡ 0 → ⊥) → (length (dot_list a n) ≡ 1) × (encode_dots (dot_list a n) ≡ le32 a ++ le64 n)
 unfolding bytes_of encode_dot_in
 dot_bytes a zero h = absurd (h refl)
-dot_bytes a (suc n) h = (refl, append_nil (le32 a ++ le64 (suc n)))
+dot_bytes a (suc n) h = (refl, append-nil (le32 a ++ le64 (suc n)))
   where
-    append_nil : (l : List ℕ) → l ++ [] ≡ l
-    append_nil [] = refl
-    append_nil (x ∷ l) = ap (λ (r : List ℕ). x ∷ r) (append_nil l)
+    append-nil : (l : List ℕ) → l ++ [] ≡ l
+    append-nil [] = refl
+    append-nil (x ∷ l) = ap (λ (r : List ℕ). x ∷ r) (append-nil l)
 
 -- ---- one side: the dot that is met, and the place after it
 
@@ -122,7 +122,7 @@ module _ {s t vs ka : List ℕ} {ja : ℕ} {kb : List ℕ} {ib n p ex ey : ℕ} 
         few = omega arith;
         left_edge = d.left_edge ∙ z.left_edge;
         right_edge = d.right_edge ∙ z.right_edge;
-        size = ap length d.bytes ∙ length_sets out (p + 12 * k.n) (encode_dots l) ∙ z.size;
+        size = ap length d.bytes ∙ length-sets out (p + 12 * k.n) (encode_dots l) ∙ z.size;
         store = rw (d.bytes, place) (wrote encode_dot out (p + 12 * k.n) o (ahead s t vs ka ja kb ib n k' (i + 1))) ∙ ap (λ (r : Clock). sets out (p + 12 * k.n) (encode_dots r)) (sym turn) ∙ z.store;
         count = let e = length_cons encode_dot o (ahead s t vs ka ja kb ib n k' (i + 1)) in let g = ap length turn in let h = z.count in omega arith;
       }
@@ -136,10 +136,10 @@ module _ {s t vs ka : List ℕ} {ja : ℕ} {kb : List ℕ} {ib n p ex ey : ℕ} 
   keep_end le =
       let w = z.within in
       let m : n - i ≡ 0 = omega arith in
-      record { count = rw (m, add_zero) at z.count; bytes = rw m at z.store }
+      record { count = rw (m, add-zero) at z.count; bytes = rw m at z.store }
 
 pub keep_begin : (s t vs ka : List ℕ) (ja : ℕ) (kb : List ℕ) (ib n p x xs y ys : ℕ) (out : List ℕ)
     → Keeping s t vs ka ja kb ib n p (x + 12 * xs) (y + 12 * ys) out (kept_along (lines_from vs ka ja kb ib 0 n) (dots_at s x xs) (dots_at t y ys)) out (record { x = x; xs = xs; y = y; ys = ys; n = 0 }) 0
 keep_begin s t vs ka ja kb ib n p x xs y ys out =
     let e : n - 0 ≡ n = omega arith in
-    record { within = omega arith; few = omega arith; left_edge = refl; right_edge = refl; size = refl; store = rw (e, mul_zero, add_zero); count = rw (e, zero_add) }
+    record { within = omega arith; few = omega arith; left_edge = refl; right_edge = refl; size = refl; store = rw (e, mul-zero, add-zero); count = rw (e, zero-add) }

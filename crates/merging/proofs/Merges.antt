@@ -6,7 +6,7 @@ use mathlib.Core.List.{List, [], ◌∷◌, map}
 use native.Mathlib.Omega.{arith}
 use lib.Dec.{T, eqb, ltb}
 use lib.ListN.{length}
-use borrow.Author.Tests.{ltb_false}
+use borrow.Author.Tests.{ltb-false}
 use Rattle.tables.specs.Table.{Normal, pick}
 use Rattle.tables.specs.Refusal.{first_of}
 use Rattle.tables.specs.Zip.{Rise}
@@ -107,7 +107,7 @@ module _ (a : List ℕ) (x : Image) (cx : x ≡ check_image a) (gx : x.good ≡ 
         go : (c : Bool) → ltb 16 (length both) ≡ c → m.no ≡ pick c 6 0 → m.clock ≡ vclock (pick (eqb (pick c 6 0) 0) both []) → MergedClock a b m.clock
         go true e f g = absurd (omega arith)
         go false e f g =
-            let l = ltb_false 16 (length both) e in
+            let l = ltb-false 16 (length both) e in
             let n = len_vclock both in
             let d = dots_vclock both l in
             rw g (record { few = omega arith; dots_are = d; long = n; normal = rw d (merged_normal (image_of a).clock (image_of b).clock (passed b gb).formed.clock_ok) })

@@ -4,10 +4,10 @@ use mathlib.Core.Path.{◌≡◌, refl, sym, ap, ap₂, ◌∙◌}
 use mathlib.Core.Bool.{Bool, true, false, ◌||◌, false≢true}
 use mathlib.Core.List.{List, []}
 use native.Mathlib.Omega.{arith}
-use native.Mathlib.Nat.{add_zero, zero_add, mul_zero}
+use native.Mathlib.Nat.{add-zero, zero-add, mul-zero}
 use lib.Dec.{eqb}
 use lib.ListN.{length}
-use lib.Seq.{sets, length_sets}
+use lib.Seq.{sets, length-sets}
 use Rattle.tables.specs.Stores.{sets_append}
 use Rattle.tables.specs.Table.{pick}
 use Rattle.tables.specs.Zip.{zip_nil, said, past, Rise, rise_past, zip_step, by_lt}
@@ -87,7 +87,7 @@ pub record Naming (s t : List ℕ) (p m q k at : ℕ) (out₀ : List ℕ) (whole
 
 module _ (s : List ℕ) (p m : ℕ) (t : List ℕ) (q k at : ℕ) where
   pub names_begin : (out : List ℕ) → MembersReady s p m t q k → Naming s t p m q k at out (both_sets (members_at s p m) (members_at t q k)) out (record { p = p; m = m; q = q; k = k; n = 0 })
-  names_begin out r = record { left_rise = r.left_rise; right_rise = r.right_rise; left_edge = refl; right_edge = refl; few = omega arith; size = refl; count = zero_add _; store = rw (mul_zero, add_zero) }
+  names_begin out r = record { left_rise = r.left_rise; right_rise = r.right_rise; left_edge = refl; right_edge = refl; few = omega arith; size = refl; count = zero-add _; store = rw (mul-zero, add-zero) }
 
   module _ {out₀ whole out : List ℕ} {w : Names} (z : Naming s t p m q k at out₀ whole out w) where
     pub names_again : (out' : List ℕ) (w' : Names) → Named s t out at w out' w' → Naming s t p m q k at out₀ whole out' w'
@@ -101,7 +101,7 @@ module _ (s : List ℕ) (p m : ℕ) (t : List ℕ) (q k at : ℕ) where
           left_edge = d.left_edge ∙ z.left_edge;
           right_edge = d.right_edge ∙ z.right_edge;
           few = omega arith;
-          size = ap length d.bytes ∙ length_sets out (at + 4 * w.n) (le32 d.low) ∙ z.size;
+          size = ap length d.bytes ∙ length-sets out (at + 4 * w.n) (le32 d.low) ∙ z.size;
           count = let g = ap length d.step in let c = z.count in omega arith;
           store = rw (d.bytes, place) (sym (sets_append out (at + 4 * w.n) (le32 d.low) (encode_members (names_left s t w')))) ∙ ap (λ (l : List ℕ). sets out (at + 4 * w.n) (encode_members l)) (sym d.step) ∙ z.store;
         }
@@ -113,4 +113,4 @@ module _ (s : List ℕ) (p m : ℕ) (t : List ℕ) (q k at : ℕ) where
         let ek : w.k ≡ 0 = omega arith in
         let f = z.few in
         let nil : names_left s t w ≡ [] = rw (em, ek) (zip_nil member_sets (λ m. ◌||◌)) in
-        record { count = rw (nil, add_zero) at z.count; few = omega arith; bytes = rw nil at z.store }
+        record { count = rw (nil, add-zero) at z.count; few = omega arith; bytes = rw nil at z.store }

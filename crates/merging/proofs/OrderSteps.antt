@@ -6,7 +6,7 @@ use mathlib.Core.List.{List, [], ◌∷◌}
 use native.Mathlib.Omega.{arith}
 use lib.Dec.{eqb, leb}
 use lib.ListN.{get_or}
-use borrow.Author.Tests.{ne_eqb, lt_leb, le_leb}
+use borrow.Author.Tests.{ne_eqb, lt-leb, le-leb}
 use Rattle.tables.specs.Order.{next, lex, self, lt_gt, nat_order, lt_nat}
 use Rattle.tables.specs.Zip.{said, past, turn_of}
 use Rattle.dots.specs.Dot.{cmp_dot, dots}
@@ -124,11 +124,11 @@ module _ (vs cs : List ℕ) (s : List ℕ) (k : ℕ) (whole : Bool) (i at left :
   cover_step h = let e : k - i ≡ suc (k - (i + 1)) = omega arith in rw e at z
 
   pub cover_less : i < k → (u w : ℕ) → u ≡ said dots (get_or vs i 0) (dots_at s at left) → w ≡ get_or cs i 0 → w < u → false ≡ whole
-  cover_less h u w eu ew l = rw (lt_leb (said dots (get_or vs i 0) (dots_at s at left)) (get_or cs i 0) (omega arith)) at (cover_step h)
+  cover_less h u w eu ew l = rw (lt-leb (said dots (get_or vs i 0) (dots_at s at left)) (get_or cs i 0) (omega arith)) at (cover_step h)
 
   pub cover_on : i < k → (u w : ℕ) → u ≡ said dots (get_or vs i 0) (dots_at s at left) → w ≡ get_or cs i 0 → u ≤ w
       → cover_of (dots_from vs cs (i + 1) (k - (i + 1))) (past dots (get_or vs i 0) (dots_at s at left)) ≡ whole
-  cover_on h u w eu ew l = rw (le_leb (said dots (get_or vs i 0) (dots_at s at left)) (get_or cs i 0) (omega arith)) at (cover_step h)
+  cover_on h u w eu ew l = rw (le-leb (said dots (get_or vs i 0) (dots_at s at left)) (get_or cs i 0) (omega arith)) at (cover_step h)
 
   pub cover_end : k ≤ i → eqb left 0 ≡ whole
   unfolding cover_of dots_from list_at

@@ -5,9 +5,9 @@ use mathlib.Core.Bool.{Bool, true, false, ◌||◌}
 use mathlib.Core.List.{List, [], ◌∷◌, ◌++◌}
 use native.Mathlib.Omega.{arith}
 use lib.Dec.{T, ltb}
-use lib.ListN.{length, take, drop, length_take, length_append}
-use lib.Seq.{sets, slice, sets_eq, take_at, drop_at}
-use borrow.Author.Tests.{ltb_true, ltb_false, lt_ltb, le_ltb, ne_eqb}
+use lib.ListN.{length, take, drop, length-take, length-append}
+use lib.Seq.{sets, slice, sets-eq, take_at, drop_at}
+use borrow.Author.Tests.{ltb-true, ltb-false, lt-ltb, le-ltb, ne_eqb}
 use Rattle.tables.specs.Table.{any}
 use Rattle.tables.specs.Stores.{sets_append}
 use Rattle.clocks.specs.declared.VClock.{VClock}
@@ -32,20 +32,20 @@ over_either : (n x y : ℕ) → ltb n (max x y) ≡ (ltb n x || ltb n y)
 over_either n x y = go (ltb n x) refl (ltb n y) refl
   where
     go : (b : Bool) → ltb n x ≡ b → (c : Bool) → ltb n y ≡ c → ltb n (max x y) ≡ (b || c)
-    go true e c f = let h = ltb_true n x e in lt_ltb n (max x y) (omega arith)
-    go false e true f = let h = ltb_true n y f in lt_ltb n (max x y) (omega arith)
-    go false e false f = let h = ltb_false n x e in let k = ltb_false n y f in le_ltb n (max x y) (omega arith)
+    go true e c f = let h = ltb-true n x e in lt-ltb n (max x y) (omega arith)
+    go false e true f = let h = ltb-true n y f in lt-ltb n (max x y) (omega arith)
+    go false e false f = let h = ltb-false n x e in let k = ltb-false n y f in le-ltb n (max x y) (omega arith)
 
 most_over : (n : ℕ) (ws : List Wait) → ltb n (most_named ws) ≡ any (λ w. ltb n (length w.members)) ws
 unfolding most_named
-most_over n [] = le_ltb n 0 (omega arith)
+most_over n [] = le-ltb n 0 (omega arith)
 most_over n (w ∷ ws) = over_either n (length w.members) (most_named ws) ∙ ap (λ (b : Bool). ltb n (length w.members) || b) (most_over n ws)
 
 slice_sets : (l xs : List ℕ) (p e : ℕ) → e ≡ p + length xs → e ≤ length l → slice p e (sets l p xs) ≡ xs
 slice_sets l xs p e z h =
-    let lp : length (take p l) ≡ p = simp length_take (omega arith) in
-    let le : length (take p l ++ xs) ≡ e = simp (length_append, length_take) (omega arith) in
-    ap (slice p e) (sets_eq xs l p (omega arith))
+    let lp : length (take p l) ≡ p = simp length-take (omega arith) in
+    let le : length (take p l ++ xs) ≡ e = simp (length-append, length-take) (omega arith) in
+    ap (slice p e) (sets-eq xs l p (omega arith))
     ∙ ap (drop p) (take_at (take p l ++ xs) (drop (p + length xs) l) e le)
     ∙ drop_at (take p l) xs p lp
 
@@ -70,7 +70,7 @@ result_drafted R v d out body clock long room well D =
       body_is = λ z.
           let k = at_most R (well z) in
           let n = length_encode narrow R in
-          let f : d.end ≡ start_of v + length (rows ++ ws) = rw length_append (omega arith) in
+          let f : d.end ≡ start_of v + length (rows ++ ws) = rw length-append (omega arith) in
           ap (slice (start_of v) d.end) (D.bytes ∙ ap (λ (i : ℕ). sets (sets out (start_of v) rows) i ws) D.middle ∙ sym (sets_append out (start_of v) rows ws))
           ∙ slice_sets out (rows ++ ws) (start_of v) d.end f (omega arith);
     }

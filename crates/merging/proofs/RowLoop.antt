@@ -5,11 +5,11 @@ use mathlib.Core.Logic.{◌⊎◌, inl, inr}
 use mathlib.Core.Bool.{Bool, true, false}
 use mathlib.Core.List.{List, [], ◌∷◌}
 use native.Mathlib.Omega.{arith}
-use native.Mathlib.Nat.{add_zero, zero_add}
+use native.Mathlib.Nat.{add-zero, zero-add}
 use lib.Dec.{eqb}
-use lib.ListN.{length, get_or, take, drop, length_append}
-use lib.Seq.{sets, length_sets}
-use borrow.Author.Tests.{eqb_true, le_ltb}
+use lib.ListN.{length, get_or, take, drop, length-append}
+use lib.Seq.{sets, length-sets}
+use borrow.Author.Tests.{eqb-true, le-ltb}
 use Rattle.tables.specs.Table.{All, pick, cons?}
 use Rattle.tables.specs.Zip.{zip, said, past, Rise, rise_past, zip_step, zip_nil, tail}
 use Rattle.tables.specs.Walk.{walked}
@@ -32,8 +32,8 @@ use Rattle.merging.proofs.WholeSteps.{actors_from, actors_take}
 keep_same : (la la' lb lb' u w : ℕ) → (u ≡ 0) ⊎ (lb ≡ lb') → (w ≡ 0) ⊎ (la ≡ la') → keep_of la lb u w ≡ keep_of la' lb' u w
 unfolding keep_of
 keep_same la la' lb lb' u w (inl p) (inl q) = rw (p, q)
-keep_same la la' lb lb' u w (inl p) (inr q) = rw (p, q, le_ltb lb 0 (omega arith), le_ltb lb' 0 (omega arith))
-keep_same la la' lb lb' u w (inr p) (inl q) = rw (p, q, le_ltb la 0 (omega arith), le_ltb la' 0 (omega arith))
+keep_same la la' lb lb' u w (inl p) (inr q) = rw (p, q, le-ltb lb 0 (omega arith), le-ltb lb' 0 (omega arith))
+keep_same la la' lb lb' u w (inr p) (inl q) = rw (p, q, le-ltb la 0 (omega arith), le-ltb la' 0 (omega arith))
 keep_same la la' lb lb' u w (inr p) (inr q) = rw (p, q)
 
 -- what a side reads for an actor, or that it has no dots
@@ -119,7 +119,7 @@ lines_at A s p m vs k n es h low j (r ∷ rows) e f = go (eqb r.member low) refl
     go false b = inl refl
     go true b = inr (λ i l.
         let z : j % 64 ≡ j = omega arith in
-        let y : r.member ≡ low = eqb_true r.member low b in
+        let y : r.member ≡ low = eqb-true r.member low b in
         rw (z, ← y) (h.lines j i r rows (sym e) l))
 
 all_drop : {R : Type 0} (P : R → Type 0) (i : ℕ) (rs : List R) → All P rs → All P (drop i rs)
@@ -150,14 +150,14 @@ module _ (A B : Replica) (s : List ℕ) (p m : ℕ) (t : List ℕ) (q k : ℕ) (
         right = b;
         left_edge = refl;
         right_edge = refl;
-        left_step = zero_add m;
-        right_step = zero_add k;
+        left_step = zero-add m;
+        right_step = zero-add k;
         left_rise = R.ours.rise;
         right_rise = R.theirs.rise;
         room = omega arith;
         few = omega arith;
         size = refl;
-        count = rw (a, b, zero_add);
+        count = rw (a, b, zero-add);
         ends = rw (a, b);
         store = rw (a, b);
       }
@@ -206,9 +206,9 @@ module _ (A B : Replica) (s : List ℕ) (p m : ℕ) (t : List ℕ) (q k : ℕ) (
           right_rise = rw d.right (rise_past entry_rows low ys z.right_rise);
           room = omega arith;
           few = omega arith;
-          size = ap length by ∙ length_sets out w.at (encode_rows (cons? o [])) ∙ z.size;
+          size = ap length by ∙ length-sets out w.at (encode_rows (cons? o [])) ∙ z.size;
           count = let f = length_cons encode_row o (rows_left cs A B s t w') in let g = ap length step in let c = z.count in omega arith;
-          ends = let f : length (encode_rows (cons? o (rows_left cs A B s t w'))) ≡ length (encode_rows (cons? o [])) + length (encode_rows (rows_left cs A B s t w')) = ap length (bytes_cons encode_row o (rows_left cs A B s t w')) ∙ simp length_append in
+          ends = let f : length (encode_rows (cons? o (rows_left cs A B s t w'))) ≡ length (encode_rows (cons? o [])) + length (encode_rows (rows_left cs A B s t w')) = ap length (bytes_cons encode_row o (rows_left cs A B s t w')) ∙ simp length-append in
               let g = ap (λ (l : List Entry). length (encode_rows l)) step in let c = z.ends in omega arith;
           store = rw (by, en) (wrote encode_row out w.at o (rows_left cs A B s t w')) ∙ ap (λ (l : List Entry). sets out w.at (encode_rows l)) (sym step) ∙ z.store;
         }
@@ -221,8 +221,8 @@ module _ (A B : Replica) (s : List ℕ) (p m : ℕ) (t : List ℕ) (q k : ℕ) (
         let fw = z.few in let ro = z.room in let ls = z.left_step in let rs = z.right_step in let fa = R.ours.few in let fb = R.theirs.few in
         let nil : rows_left cs A B s t w ≡ [] = rw (em, ek) (zip_nil entries (kept_clock cs A B)) in
         record {
-          count = rw (nil, add_zero) at z.count;
-          ends = rw (nil, add_zero) at z.ends;
+          count = rw (nil, add-zero) at z.count;
+          ends = rw (nil, add-zero) at z.ends;
           few = omega arith;
           room = omega arith;
           bytes = rw nil at z.store;

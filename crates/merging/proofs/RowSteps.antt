@@ -4,11 +4,11 @@ use mathlib.Core.Path.{◌≡◌, refl, sym, ap, ap₂, ◌∙◌, subst}
 use mathlib.Core.Bool.{Bool, true, false}
 use mathlib.Core.List.{List, [], ◌∷◌, ◌++◌, append_assoc}
 use native.Mathlib.Omega.{arith}
-use native.Mathlib.Nat.{add_zero, add_suc, suc_add}
+use native.Mathlib.Nat.{add-zero, add-suc, suc-add}
 use lib.Dec.{eqb}
-use lib.ListN.{length, set, length_append}
+use lib.ListN.{length, set, length-append}
 use lib.Seq.{sets, set_comm}
-use borrow.Author.Tests.{eq_eqb, ne_eqb}
+use borrow.Author.Tests.{eq-eqb, ne_eqb}
 use Rattle.tables.specs.Table.{pick, cons?}
 use Rattle.tables.specs.Walk.{walked}
 use Rattle.tables.specs.Zip.{said, past, by_lt}
@@ -32,10 +32,10 @@ sets_set l i j x [] h = refl
 sets_set l i j x (y ∷ ys) h = ap (λ (m : List ℕ). sets m (suc j) ys) (set_comm l i j x y (λ e. omega arith)) ∙ sets_set (set l j y) i (suc j) x ys (omega arith)
 
 pub sets_before : (l : List ℕ) (i : ℕ) (xs ys : List ℕ) → sets (sets l (i + length xs) ys) i xs ≡ sets l i (xs ++ ys)
-sets_before l i [] ys = rw add_zero
+sets_before l i [] ys = rw add-zero
 sets_before l i (x ∷ xs) ys =
     ap (λ (m : List ℕ). sets m (suc i) xs) (sym (sets_set l i (i + suc (length xs)) x ys (omega arith)))
-    ∙ ap (λ (j : ℕ). sets (sets (set l i x) j ys) (suc i) xs) (add_suc i (length xs) ∙ sym (suc_add i (length xs)))
+    ∙ ap (λ (j : ℕ). sets (sets (set l i x) j ys) (suc i) xs) (add-suc i (length xs) ∙ sym (suc-add i (length xs)))
     ∙ sets_before (set l i x) (suc i) xs ys
 
 -- ---- one side
@@ -156,8 +156,8 @@ met_one s p m t q k low i j e small a b =
     let x = a.is small in
     let y = b.is small in
     by_lt (key_ahead s p m) (key_ahead t q k)
-    (λ h. let z : ◌≡◌ {A = ℕ} (hits (key_ahead s p m) low) 1 = rw (eq_eqb (key_ahead s p m) low (omega arith)) in omega arith)
-    (λ h. let z : ◌≡◌ {A = ℕ} (hits (key_ahead t q k) low) 1 = rw (eq_eqb (key_ahead t q k) low (omega arith)) in omega arith)
+    (λ h. let z : ◌≡◌ {A = ℕ} (hits (key_ahead s p m) low) 1 = rw (eq-eqb (key_ahead s p m) low (omega arith)) in omega arith)
+    (λ h. let z : ◌≡◌ {A = ℕ} (hits (key_ahead t q k) low) 1 = rw (eq-eqb (key_ahead t q k) low (omega arith)) in omega arith)
 
 -- ---- the row that is written
 
@@ -166,9 +166,9 @@ pub record RowPut (out : List ℕ) (at low : ℕ) (K : Clock) (out' : List ℕ) 
   pub ends : long ≡ length (encode_rows (cons? (entry? low K) []))
   pub bytes : out' ≡ sets out at (encode_rows (cons? (entry? low K) []))
 
-append_nil : (l : List ℕ) → l ++ [] ≡ l
-append_nil [] = refl
-append_nil (x ∷ l) = ap (λ (r : List ℕ). x ∷ r) (append_nil l)
+append-nil : (l : List ℕ) → l ++ [] ≡ l
+append-nil [] = refl
+append-nil (x ∷ l) = ap (λ (r : List ℕ). x ∷ r) (append-nil l)
 
 pub row_put : (out : List ℕ) (at low : ℕ) (K : Clock) (c : ℕ) (out' out'' : List ℕ) → KeptDots out (at + 8) K out' c
     → out'' ≡ sets out' at (pick (eqb c 0) [] (le32 low ++ le32 c)) → RowPut out at low K out'' (pick (eqb c 0) 0 (8 + 12 * c)) (pick (eqb c 0) 0 1)
@@ -177,14 +177,14 @@ row_put out at low [] c out' out'' k e = let z = k.count in rw z (record { count
 row_put out at low (d ∷ K) c out' out'' k e =
     let z = k.count in
     let y = ne_eqb (suc (length K)) 0 (λ x. omega arith) in
-    let l : length (le32 low ++ le32 (suc (length K))) ≡ 8 = simp (length_append, length_le32) in
+    let l : length (le32 low ++ le32 (suc (length K))) ≡ 8 = simp (length-append, length_le32) in
     let f : out'' ≡ sets out at ((le32 low ++ le32 (suc (length K))) ++ encode_dots (d ∷ K)) =
     (rw (z, y) at e) ∙ ap (λ (m : List ℕ). sets m at (le32 low ++ le32 (suc (length K)))) (k.bytes ∙ ap (λ (j : ℕ). sets out (at + j) (encode_dots (d ∷ K))) (sym l))
     ∙ sets_before out at (le32 low ++ le32 (suc (length K))) (encode_dots (d ∷ K)) in
     let r : encode_rows (cons? (entry? low (d ∷ K)) []) ≡ (le32 low ++ le32 (suc (length K))) ++ encode_dots (d ∷ K) =
-    append_nil (le32 low ++ (le32 (suc (length K)) ++ encode_dots (d ∷ K))) ∙ sym (append_assoc (le32 low) (le32 (suc (length K))) (encode_dots (d ∷ K))) in
+    append-nil (le32 low ++ (le32 (suc (length K)) ++ encode_dots (d ∷ K))) ∙ sym (append_assoc (le32 low) (le32 (suc (length K))) (encode_dots (d ∷ K))) in
     let h = length_dots (d ∷ K) in
-    rw (z, y) (record { count = refl; ends = rw r (sym (length_append (le32 low ++ le32 (suc (length K))) (encode_dots (d ∷ K)) ∙ ap₂ ◌+◌ l h)); bytes = f ∙ ap (sets out at) (sym r) })
+    rw (z, y) (record { count = refl; ends = rw r (sym (length-append (le32 low ++ le32 (suc (length K))) (encode_dots (d ∷ K)) ∙ ap₂ ◌+◌ l h)); bytes = f ∙ ap (sets out at) (sym r) })
 
 -- ---- the turn
 

@@ -1,10 +1,10 @@
 -- The bytes of what an operation brings say it, and it is held by what tells where it stands.
 use Prim.Native.Nat.{ℕ, zero, suc, ◌+◌, ◌*◌, ◌^◌, ◌≤◌, ◌<◌, min, compare}
 use mathlib.Core.Path.{◌≡◌, refl, sym, ap, ap₂, ◌∙◌, subst}
-use mathlib.Core.List.{List, [], ◌∷◌, ◌++◌, map, append_nil}
+use mathlib.Core.List.{List, [], ◌∷◌, ◌++◌, map, append-nil}
 use native.Mathlib.Omega.{arith}
-use native.Mathlib.Nat.{zero_add}
-use lib.ListN.{length, take, length_append, length_map, length_take}
+use native.Mathlib.Nat.{zero-add}
+use lib.ListN.{length, take, length-append, length-map, length-take}
 use lib.Seq.{sets, take-take}
 use Rattle.clocks.specs.contracts.VClock as VClock
 use Rattle.lists.specs.contracts.Members as Members
@@ -56,7 +56,7 @@ rows_long c (k ∷ ks) one =
     let e = one (omega arith) in
     let l = length_encode_row (record { member = k; clock = c }) in
     let r = rows_long c ks (λ h. e) in
-    simp length_append (omega arith)
+    simp length-append (omega arith)
 
 rows_fit : (c : Clock) (ks : List ℕ) → FitsClock c → FitMembers ks → All FitsRow (brought c ks)
 rows_fit c [] f g = tt
@@ -88,7 +88,7 @@ read_wait s q w e few many =
 
 in_turn_of : (s a b d e : List ℕ) (q : ℕ) → length a ≡ 24 → length b ≡ 4 → 28 + length d ≡ q → sets s 0 (a ++ (b ++ (d ++ e))) ≡ sets (sets (sets (sets s 0 a) 24 b) 28 d) q e
 in_turn_of s a b d e q la lb ld =
-    sets_append s 0 a (b ++ (d ++ e)) ∙ ap (λ (i : ℕ). sets (sets s 0 a) i (b ++ (d ++ e))) (zero_add (length a) ∙ la)
+    sets_append s 0 a (b ++ (d ++ e)) ∙ ap (λ (i : ℕ). sets (sets s 0 a) i (b ++ (d ++ e))) (zero-add (length a) ∙ la)
     ∙ sets_append (sets s 0 a) 24 b (d ++ e) ∙ ap (λ (i : ℕ). sets (sets (sets s 0 a) 24 b) (24 + i) (d ++ e)) lb
     ∙ sets_append (sets (sets s 0 a) 24 b) 28 d e ∙ ap (λ (i : ℕ). sets (sets (sets (sets s 0 a) 24 b) 28 d) i e) ld
 
@@ -100,23 +100,23 @@ module _ (c : VClock) (m : Members) (n : ℕ) (wide : length m.at ≡ 64) (long 
   s = encode B
 
   clock_len : length (dots_of c) ≡ c.len
-  clock_len = simp length_take (omega arith)
+  clock_len = simp length-take (omega arith)
 
   list_len : length (list_of m) ≡ m.len
-  list_len = simp length_take (omega arith)
+  list_len = simp length-take (omega arith)
 
   rows_len : length (take n m.at) ≡ n
-  rows_len = simp length_take (omega arith)
+  rows_len = simp length-take (omega arith)
 
   entries_len : length B.entries ≡ n
-  entries_len = simp length_map rows_len
+  entries_len = simp length-map rows_len
 
   rows_end : length (encode_rows (brought (dots_of c) (take n m.at))) ≡ 20 * n
   rows_end = let k = clock_len in let l = rows_len in rows_long (dots_of c) (take n m.at) (λ h. let o = one (omega arith) in omega arith) ∙ ap (λ (i : ℕ). 20 * i) l
 
   wait_end_is : length (encode_waits B.waiting) ≡ 8 + 12 * c.len + 4 * m.len
   unfolding bytes_of
-  wait_end_is = let k = clock_len in let l = list_len in let w = length_encode_wait (record { clock = dots_of c; members = list_of m }) in simp length_append (omega arith)
+  wait_end_is = let k = clock_len in let l = list_len in let w = length_encode_wait (record { clock = dots_of c; members = list_of m }) in simp length-append (omega arith)
 
   from_rows : rows_from narrow B ≡ 28
   unfolding rows_from
@@ -144,7 +144,7 @@ module _ (c : VClock) (m : Members) (n : ℕ) (wide : length m.at ≡ 64) (long 
   side_bytes s₀ s₁ s₂ s₃ s₄ s₅ r k e₁ e₂ e₃ p q =
       let l : 28 + 20 * n + 4 + 12 * c.len ≡ 28 + 20 * n + r = let a = p.long in let b = length_encode_clock (dots_of c) in let d = clock_len in omega arith in
       let w : s₅ ≡ sets s₃ (28 + 20 * n) (encode_wait (record { clock = dots_of c; members = list_of m })) = (wait_done s₃ s₄ s₅ (28 + 20 * n) r k c m p (rw l at q)).is in
-      w ∙ rw (e₃, e₂, e₁, append_nil (le32 0), append_nil (encode_wait (record { clock = dots_of c; members = list_of m })), contents_are)
+      w ∙ rw (e₃, e₂, e₁, append-nil (le32 0), append-nil (encode_wait (record { clock = dots_of c; members = list_of m })), contents_are)
       (sym (in_turn_of s₀ (contents (28 + 20 * n + 8 + 12 * c.len + 4 * m.len) 28 n (28 + 20 * n) 1) (le32 0) (encode_rows B.entries) (encode_wait (record { clock = dots_of c; members = list_of m })) (28 + 20 * n)
       (length_contents (28 + 20 * n + 8 + 12 * c.len + 4 * m.len) 28 n (28 + 20 * n) 1) (length_le32 0) (ap (λ (i : ℕ). 28 + i) rows_end)))
 

@@ -4,7 +4,7 @@ use mathlib.Core.Path.{◌≡◌, sym, ap, ap₂, ◌∙◌}
 use mathlib.Core.List.{List, [], ◌∷◌, map}
 use native.Mathlib.Omega.{arith}
 use lib.ListN.{length, take, drop}
-use lib.Seq.{sets, sets_eq, length_sets, take_at}
+use lib.Seq.{sets, sets-eq, length-sets, take_at}
 use mir.Val.{WT}
 use Rattle.tables.specs.Table.{All}
 use Rattle.tables.specs.Zip.{Rise}
@@ -46,10 +46,10 @@ all_take P (suc n) (x ∷ l) h = (h.0, all_take P n l h.1)
 
 module _ (n : ℕ) (s before out : List ℕ) (long : length s ≡ n) (room : n ≤ length before) (wrote : out ≡ sets before 0 s) where
   pub part_fits : n ≤ length out
-  part_fits = let l = ap length wrote ∙ length_sets before 0 s in omega arith
+  part_fits = let l = ap length wrote ∙ length-sets before 0 s in omega arith
 
   pub part_is : take n out ≡ s
-  part_is = rw (wrote, sets_eq s before 0 (omega arith)) (take_at s (drop (0 + length s) before) n long)
+  part_is = rw (wrote, sets-eq s before 0 (omega arith)) (take_at s (drop (0 + length s) before) n long)
 
   pub part_counted : n ≡ length (take n out)
   part_counted = sym (ap length part_is ∙ long)

@@ -1,11 +1,11 @@
 -- A second side in bytes: one turn of the loop that writes its entries, and what its image is.
 use Prim.Native.Nat.{ℕ, zero, suc, ◌+◌, ◌*◌, ◌≤◌, ◌<◌}
 use mathlib.Core.Path.{◌≡◌, refl, sym, ap, ap₂, ◌∙◌}
-use mathlib.Core.List.{List, [], ◌∷◌, ◌++◌, append_nil}
+use mathlib.Core.List.{List, [], ◌∷◌, ◌++◌, append-nil}
 use native.Mathlib.Omega.{arith}
-use native.Mathlib.Numerals.{add_one}
-use lib.ListN.{length, take, drop, set, get_or, length_take, drop_of_length_le}
-use lib.Seq.{sets, slice_cons, length_sets, take-suc-set}
+use native.Mathlib.Numerals.{add-one}
+use lib.ListN.{length, take, drop, set, get_or, length-take, drop_of_length-le}
+use lib.Seq.{sets, slice-cons, length-sets, take-suc-set}
 use Rattle.tables.specs.Stores.{sets_append}
 use Rattle.dots.specs.declared.Dot.{Dot}
 use Rattle.dots.specs.Dot.{actor_of, no_dot}
@@ -43,7 +43,7 @@ one_row s₀ s₁ s₂ s₃ s₄ p member d e₁ e₂ e₃ e₄ =
     e₄ ∙ rw (e₃, e₂, e₁) (sym (
     sets_append s₀ p (le32 member) (le32 1 ++ (dot ++ [])) ∙ ap (λ (k : ℕ). sets (sets s₀ p (le32 member)) (p + k) (le32 1 ++ (dot ++ []))) (length_le32 member)
     ∙ sets_append (sets s₀ p (le32 member)) (p + 4) (le32 1) (dot ++ []) ∙ ap (λ (k : ℕ). sets (sets (sets s₀ p (le32 member)) (p + 4) (le32 1)) (p + 4 + k) (dot ++ [])) (length_le32 1)
-    ∙ ap₂ (λ (k : ℕ) (l : List ℕ). sets (sets (sets s₀ p (le32 member)) (p + 4) (le32 1)) k l) q (append_nil dot)
+    ∙ ap₂ (λ (k : ℕ) (l : List ℕ). sets (sets (sets s₀ p (le32 member)) (p + 4) (le32 1)) k l) q (append-nil dot)
     ∙ sets_append (sets (sets s₀ p (le32 member)) (p + 4) (le32 1)) (p + 8) (le32 (actor_of d)) (le64 d.counter)
     ∙ ap (λ (k : ℕ). sets (sets (sets (sets s₀ p (le32 member)) (p + 4) (le32 1)) (p + 8) (le32 (actor_of d))) k (le64 d.counter)) (ap (λ (k : ℕ). p + 8 + k) (length_le32 (actor_of d)) ∙ r)))
 
@@ -65,12 +65,12 @@ module _ {c : Clock} {ms : List ℕ} {n : ℕ} {s₀ s places : List ℕ} {i : �
   unfolding bytes_of
   rows_again h hn room one p s' e w = record {
     within = omega arith;
-    size = ap length w ∙ length_sets s p (encode_row r) ∙ z.size;
+    size = ap length w ∙ length-sets s p (encode_row r) ∙ z.size;
     ahead = rw w (ap (λ (q : ℕ). sets (sets s p (encode_row r)) q (encode_rows (brought c (drop (i + 1) (take n ms))))) next
         ∙ sym (sets_append s p (encode_row r) (encode_rows (brought c (drop (i + 1) (take n ms)))))
         ∙ ap (λ (ks : List ℕ). sets s p (encode_rows (brought c ks))) (sym front)
         ∙ ap (λ (q : ℕ). sets s q (encode_rows (brought c (drop i (take n ms))))) e ∙ z.ahead);
-    stand = rw add_one (take-suc-set places i p room) ∙ ap (λ (l : List ℕ). l ++ p ∷ []) z.stand
+    stand = rw add-one (take-suc-set places i p room) ∙ ap (λ (l : List ℕ). l ++ p ∷ []) z.stand
         ∙ sym (starts_next (λ s p. p + 20) [] 28 i ∙ ap (λ (q : ℕ). places_of i ++ q ∷ []) (steady_end 20 [] 28 i ∙ sym e));
   }
     where
@@ -81,12 +81,12 @@ module _ {c : Clock} {ms : List ℕ} {n : ℕ} {s₀ s places : List ℕ} {i : �
       next = let k = length_encode_row r in omega arith
 
       front : drop i (take n ms) ≡ get_or ms i 0 ∷ drop (i + 1) (take n ms)
-      front = rw add_one (slice_cons i n ms 0 h hn)
+      front = rw add-one (slice-cons i n ms 0 h hn)
 
   pub rows_end : n ≤ i → (s ≡ sets s₀ 28 (encode_rows (brought c (take n ms)))) × (take n places ≡ places_of n)
   unfolding bytes_of
   rows_end h =
       let w = z.within in
       let e : i ≡ n = omega arith in
-      let none : drop i (take n ms) ≡ [] = drop_of_length_le (take n ms) {i = i} (simp length_take (omega arith)) in
+      let none : drop i (take n ms) ≡ [] = drop_of_length-le (take n ms) {i = i} (simp length-take (omega arith)) in
       (rw none at z.ahead, rw e at z.stand)

@@ -4,8 +4,8 @@ use mathlib.Core.Path.{◌≡◌, refl, sym, ap, ap₂, ◌∙◌}
 use mathlib.Core.Bool.{Bool, true, false}
 use mathlib.Core.List.{List, [], ◌∷◌, map}
 use native.Mathlib.Omega.{arith}
-use native.Mathlib.Nat.{zero_add}
-use lib.ListN.{length, take, drop, get_or, replicate, length_map, length-replicate}
+use native.Mathlib.Nat.{zero-add}
+use lib.ListN.{length, take, drop, get_or, replicate, length-map, length-replicate}
 use Rattle.tables.specs.Zip.{Rise}
 use Rattle.dots.specs.Dot.{dots, actor_of}
 use Rattle.clocks.specs.declared.VClock.{VClock}
@@ -54,7 +54,7 @@ module _ (v : VClock) (vs : List ℕ) (few : v.len ≤ 16) (rise : Rise dots (do
   lines_of s x t y va k counting wide H G c z j i e rest d h =
       let ms = map (λ e. e.member) (image_of t).entries in
       let r = drop_here (λ e. e.member) (image_of t).entries j e rest d in
-      let lm : length ms ≡ length (image_of t).entries = simp length_map in
+      let lm : length ms ≡ length (image_of t).entries = simp length-map in
       let n = clock_long v vs long few actors in
       let m = held_count t y G in
       let few_entries = G.few in
@@ -120,7 +120,7 @@ module _ (v : VClock) (vs : List ℕ) (few : v.len ≤ 16) (rise : Rise dots (do
 
     pub one_kept : (k : ℕ) (vb : List ℕ) → y.waits ≡ 0 → k ≡ u32_at t 24 → Counts (dots_at t 28 k) vs v.len vb
         → sifted_rows vs v.len vb false 0 (rows_at s p x.entries) ≡ kept_entries (map (λ d. actor_of d) (dots_of v)) (image_of s) (image_of t)
-    one_kept k vb e ek c = kept_of vb false (λ j i r rest d h. rw (zero_add i) (one_line t y vb G e (clock_counts t vs k v.len vb ek c) r.member i h))
+    one_kept k vb e ek c = kept_of vb false (λ j i r rest d h. rw (zero-add i) (one_line t y vb G e (clock_counts t vs k v.len vb ek c) r.member i h))
 
     pub own_kept : (k : ℕ) (vb kb : List ℕ) (cb : ℕ) → length vb ≡ 16 → k ≡ u32_at t 24 → Counts (dots_at t 28 k) vs v.len vb → Killed t y s x vb kb cb
         → sifted_rows vs v.len kb true 0 (rows_at s p x.entries) ≡ kept_entries (map (λ d. actor_of d) (dots_of v)) (image_of s) (image_of t)

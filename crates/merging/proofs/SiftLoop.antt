@@ -6,9 +6,9 @@ use mathlib.Core.Bool.{Bool}
 use mathlib.Core.Option.{some}
 use mathlib.Core.List.{List, [], ◌∷◌, ◌++◌, append_assoc}
 use native.Mathlib.Omega.{arith}
-use native.Mathlib.Nat.{add_zero, zero_add}
-use lib.ListN.{length, get_or, take, drop, length_append, length_take}
-use lib.Seq.{sets, length_sets, slice, slice_empty, length-slice, take-add, drop_at, drop-append-le, length_take_le}
+use native.Mathlib.Nat.{add-zero, zero-add}
+use lib.ListN.{length, get_or, take, drop, length-append, length-take}
+use lib.Seq.{sets, length-sets, slice, slice_empty, length-slice, take-add, drop_at, drop-append-le, length-take-le}
 use Rattle.tables.specs.Table.{cons?}
 use Rattle.tables.specs.Zip.{zip, tail, Rise, zip_nil, zip_left}
 use Rattle.tables.specs.Walk.{walked}
@@ -68,7 +68,7 @@ module _ {s vs : List ℕ} {n : ℕ} {l : List ℕ} {own : Bool} where
   sifted_none = record { moved = moved_none; ends = refl; store = refl }
 
   pub sifted_size : {out out' : List ℕ} {w w' : Rows} → Sifted s vs n l own out w out' w' → length out' ≡ length out
-  sifted_size {out} {out'} {w} {w'} z = sym (length_sets out' w'.at (encode_rows (rows_ahead s vs n l own w'))) ∙ ap length z.store ∙ length_sets out w.at (encode_rows (rows_ahead s vs n l own w))
+  sifted_size {out} {out'} {w} {w'} z = sym (length-sets out' w'.at (encode_rows (rows_ahead s vs n l own w'))) ∙ ap length z.store ∙ length-sets out w.at (encode_rows (rows_ahead s vs n l own w))
 
   pub sifted_on : {out₀ out out' : List ℕ} {u w w' : Rows} → Sifted s vs n l own out₀ u out w → Sifted s vs n l own out w out' w' → Sifted s vs n l own out₀ u out' w'
   sifted_on a b = record { moved = moved_on a.moved b.moved; ends = b.ends ∙ a.ends; store = b.store ∙ a.store }
@@ -80,8 +80,8 @@ module _ {s vs : List ℕ} {n : ℕ} {l : List ℕ} {own : Bool} where
       let o = z.moved in let os = o.step in let oo = o.on in let on = o.room in let of = o.few in
       let nil : rows_ahead s vs n l own w ≡ [] = rw e in
       record {
-        count = (rw (nil, add_zero) at o.count) ∙ zero_add _;
-        ends = rw (nil, add_zero) at z.ends;
+        count = (rw (nil, add-zero) at o.count) ∙ zero-add _;
+        ends = rw (nil, add-zero) at z.ends;
         few = omega arith;
         room = omega arith;
         bytes = rw nil at z.store;
@@ -93,7 +93,7 @@ slice_join : (a b c : ℕ) (s : List ℕ) → a ≤ b → b ≤ c → c ≤ leng
 slice_join a b c s h k q =
     let d = c - b in
     let e : c ≡ b + d = omega arith in
-    let l : length (take b s) ≡ b = length_take_le b s (omega arith) in
+    let l : length (take b s) ≡ b = length-take-le b s (omega arith) in
     rw (e, take-add b d s) (ap (λ (x : List ℕ). drop a (take b s) ++ x) (drop_at (take b s) (take d (drop b s)) b l) ∙ sym (drop-append-le a (take b s) (take d (drop b s)) (omega arith)))
 
 row_copied : (s : List ℕ) (p xs : ℕ) → xs ≡ u32_at s (p + 4) → Bytes s → p + 8 + 12 * xs ≤ length s → slice p (p + 8 + 12 * xs) s ≡ encode_row (record { member = u32_at s p; clock = dots_at s (p + 8) xs })
@@ -123,7 +123,7 @@ module _ {s vs : List ℕ} {n : ℕ} {l : List ℕ} {own : Bool} where
       let long : length (dots_at s (w.p + 8) xs) ≡ xs = length_list_at dot_at (dot_end_in narrow) s (w.p + 8) xs in
       let dots = h.0 in
       let o : row_of s vs n l own w xs r any ≡ some row = rw h.1 (entry_some (u32_at s w.p) (dots_at s (w.p + 8) xs) (omega arith)) in
-      let short : xs ≤ 16 = let f = r.few in let g = length_take n vs in omega arith in
+      let short : xs ≤ 16 = let f = r.few in let g = length-take n vs in omega arith in
       let rest = encode_rows (rows_ahead s vs n l own (row_past s vs n l own w xs r any (8 + 12 * xs) 1)) in
       let step : encode_rows (rows_ahead s vs n l own w) ≡ slice w.p (w.p + 8 + 12 * xs) s ++ rest =
       ap (λ (es : List Entry). encode_rows es) (rw o at (ahead_step s vs n l own w xs r any (8 + 12 * xs) 1)) ∙ ap (λ (x : List ℕ). x ++ rest) (sym (row_copied s w.p xs e b inside)) in
@@ -146,7 +146,7 @@ module _ {s vs : List ℕ} {n : ℕ} {l : List ℕ} {own : Bool} where
       let place : w'.at ≡ w.at + length run = omega arith in
       record {
         moved = z.moved;
-        ends = let f : length (encode_rows (rows_ahead s vs n l own w)) ≡ length run + length rest = ap length z.bytes ∙ length_append run rest in omega arith;
+        ends = let f : length (encode_rows (rows_ahead s vs n l own w)) ≡ length run + length rest = ap length z.bytes ∙ length-append run rest in omega arith;
         store = rw (e, place) (sym (sets_append out w.at run rest)) ∙ ap (sets out w.at) (sym z.bytes);
       }
 

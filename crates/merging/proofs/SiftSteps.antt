@@ -6,9 +6,9 @@ use mathlib.Core.Bool.{Bool, true, false}
 use mathlib.Core.Option.{Option, none, some}
 use mathlib.Core.List.{List, [], ◌∷◌}
 use native.Mathlib.Omega.{arith}
-use native.Mathlib.Numerals.{add_one}
+use native.Mathlib.Numerals.{add-one}
 use lib.Dec.{eqb}
-use lib.ListN.{length, get_or, take, length_append}
+use lib.ListN.{length, get_or, take, length-append}
 use lib.Seq.{sets, slice}
 use Rattle.tables.specs.Table.{pick, cons?}
 use Rattle.tables.specs.Zip.{past, tail, by_lt}
@@ -177,7 +177,7 @@ module _ (s vs : List ℕ) (n : ℕ) (l : List ℕ) (own : Bool) (w : Rows) (xs 
 
   pub ahead_step : (long one : ℕ) → rows_ahead s vs n l own w ≡ cons? row_of (rows_ahead s vs n l own (row_past long one))
   unfolding sifted_rows
-  ahead_step long one = rw (r.rows, add_one)
+  ahead_step long one = rw (r.rows, add-one)
 
   pub row_moved : (long one : ℕ) → long ≤ 200 → one ≡ length (cons? row_of []) → Moved s vs n l own w (row_past long one)
   row_moved long one short e =
@@ -205,7 +205,7 @@ module _ (s vs : List ℕ) (n : ℕ) (l : List ℕ) (own : Bool) (w : Rows) (xs 
       let step = ahead_step long one in
       record {
         moved = row_moved long one short put.count;
-        ends = let f : length (encode_rows (cons? row_of rest)) ≡ length (encode_rows (cons? row_of [])) + length (encode_rows rest) = ap length (bytes_cons encode_row row_of rest) ∙ simp length_append in
+        ends = let f : length (encode_rows (cons? row_of rest)) ≡ length (encode_rows (cons? row_of [])) + length (encode_rows rest) = ap length (bytes_cons encode_row row_of rest) ∙ simp length-append in
             let g = ap (λ (es : List Entry). length (encode_rows es)) step in let q = put.ends in omega arith;
         store = rw (put.bytes, put.ends) (wrote encode_row out w.at row_of rest) ∙ ap (λ (es : List Entry). sets out w.at (encode_rows es)) (sym step);
       }

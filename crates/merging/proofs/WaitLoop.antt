@@ -4,10 +4,10 @@ use mathlib.Core.Path.{◌≡◌, refl, sym, ap, ap₂, ◌∙◌, subst}
 use mathlib.Core.Option.{Option, none, some}
 use mathlib.Core.List.{List, [], ◌∷◌}
 use native.Mathlib.Omega.{arith}
-use native.Mathlib.Nat.{add_zero, zero_add}
+use native.Mathlib.Nat.{add-zero, zero-add}
 use lib.Dec.{ltb}
-use lib.ListN.{length, length_append}
-use lib.Seq.{sets, length_sets}
+use lib.ListN.{length, length-append}
+use lib.Seq.{sets, length-sets}
 use Rattle.tables.specs.Table.{Normal, All, all_map, cons?}
 use Rattle.tables.specs.Zip.{turn_of, left_after, right_after, Ascend, ascend_left, ascend_right}
 use Rattle.dots.specs.Dot.{clocks}
@@ -91,7 +91,7 @@ module _ (v : Clock) (s : List ℕ) (p m : ℕ) (t : List ℕ) (q k : ℕ) (R : 
         few = omega arith;
         room = omega arith;
         size = refl;
-        count = zero_add _;
+        count = zero-add _;
         ends = refl;
         most = omega arith;
         store = refl;
@@ -135,9 +135,9 @@ module _ (v : Clock) (s : List ℕ) (p m : ℕ) (t : List ℕ) (q k : ℕ) (R : 
           right_edge = d.right_edge ∙ z.right_edge;
           few = omega arith;
           room = omega arith;
-          size = ap length by ∙ length_sets out w.at (encode_waits (cons? r [])) ∙ z.size;
+          size = ap length by ∙ length-sets out w.at (encode_waits (cons? r [])) ∙ z.size;
           count = let f = length_cons encode_wait r (waits_left v s t w') in let g = ap length step in let c = z.count in omega arith;
-          ends = let f : length (encode_waits (cons? r (waits_left v s t w'))) ≡ length (encode_waits (cons? r [])) + length (encode_waits (waits_left v s t w')) = ap length (bytes_cons encode_wait r (waits_left v s t w')) ∙ simp length_append in
+          ends = let f : length (encode_waits (cons? r (waits_left v s t w'))) ≡ length (encode_waits (cons? r [])) + length (encode_waits (waits_left v s t w')) = ap length (bytes_cons encode_wait r (waits_left v s t w')) ∙ simp length-append in
               let g = ap (λ (l : List Wait). length (encode_waits l)) step in let c = z.ends in omega arith;
           most = let f = most_cons r (waits_left v s t w') in let g = ap most_named step in let c = z.most in omega arith;
           store = rw (by, en) (wrote encode_wait out w.at r (waits_left v s t w')) ∙ ap (λ (l : List Wait). sets out w.at (encode_waits l)) (sym step) ∙ z.store;
@@ -156,8 +156,8 @@ module _ (v : Clock) (s : List ℕ) (p m : ℕ) (t : List ℕ) (q k : ℕ) (R : 
         let ga = end_ge s w.p w.m in let gb = end_ge t w.q w.k in
         let nil : waits_left v s t w ≡ [] = rw (em, ek) (waits_end v) in
         record {
-          count = rw (nil, add_zero) at z.count;
-          ends = rw (nil, add_zero) at z.ends;
+          count = rw (nil, add-zero) at z.count;
+          ends = rw (nil, add-zero) at z.ends;
           most = let mo = rw nil at z.most in let e : w.most ≡ most_named whole = omega arith in ap (ltb 32) e;
           few = omega arith;
           room = omega arith;

@@ -4,10 +4,10 @@ use mathlib.Core.Path.{◌≡◌, refl, sym, ap, ap₂, ◌∙◌}
 use mathlib.Core.Bool.{Bool, true, false, false≢true}
 use mathlib.Core.List.{List, [], ◌∷◌, ◌++◌}
 use native.Mathlib.Omega.{arith}
-use native.Mathlib.Nat.{add_zero}
+use native.Mathlib.Nat.{add-zero}
 use lib.Dec.{eqb}
-use lib.ListN.{length, length_append}
-use lib.Seq.{sets, slice, length_sets}
+use lib.ListN.{length, length-append}
+use lib.Seq.{sets, slice, length-sets}
 use borrow.Author.Tests.{ne_eqb}
 use Rattle.tables.specs.Stores.{sets_append}
 use Rattle.tables.specs.Table.{Normal, All, pick, cons?}
@@ -32,18 +32,18 @@ use Rattle.merging.proofs.RowSteps.{sets_before}
 abbrev Putting : Type 0
 Putting = putting.Put
 
-pub append_nil : (l : List ℕ) → l ++ [] ≡ l
-append_nil [] = refl
-append_nil (x ∷ l) = ap (λ (r : List ℕ). x ∷ r) (append_nil l)
+pub append-nil : (l : List ℕ) → l ++ [] ≡ l
+append-nil [] = refl
+append-nil (x ∷ l) = ap (λ (r : List ℕ). x ∷ r) (append-nil l)
 
 length_members : (ms : List ℕ) → length (encode_members ms) ≡ 4 * length ms
 unfolding bytes_of
 length_members [] = refl
-length_members (m ∷ ms) = let e = length_members ms in let f = length_le32 m in simp length_append (omega arith)
+length_members (m ∷ ms) = let e = length_members ms in let f = length_le32 m in simp length-append (omega arith)
 
 pub length_clock : (c : Clock) → length (encode_clock c) ≡ 4 + 12 * length c
 unfolding encode_clock_in
-length_clock c = simp (length_append, length_le32, length_dots)
+length_clock c = simp (length-append, length_le32, length_dots)
 
 -- ---- a clock in bytes
 
@@ -74,13 +74,13 @@ module _ (c : Clock) (ms : List ℕ) (most : ℕ) (out : List ℕ) (at : ℕ) wh
       let all = encode_clock c ++ (le32 (length ms) ++ encode_members ms) in
       let lc = length_clock c in
       let lm = length_members ms in
-      let la : length all ≡ length (encode_clock c) + (4 + length (encode_members ms)) = simp (length_append, length_le32) in
+      let la : length all ≡ length (encode_clock c) + (4 + length (encode_members ms)) = simp (length-append, length_le32) in
       rw e (record {
         count = refl;
-        long = rw (append_nil all, la) (omega arith);
+        long = rw (append-nil all, la) (omega arith);
         names = omega arith;
         short = omega arith;
-        bytes = rw (append_nil all) eo;
+        bytes = rw (append-nil all) eo;
       })
 
 -- one that is copied whole
@@ -139,7 +139,7 @@ put_same {b} {c} {ms} {ms'} {most} {most'} {out} {at} {out'} {r} e h k =
     rw e at w
 
 pub put_size : {b : Bool} {c : Clock} {ms : List ℕ} {most : ℕ} {out : List ℕ} {at : ℕ} {out' : List ℕ} {r : Putting} → waiting.PutWait b c ms most out at out' r → length out' ≡ length out
-put_size {b} {c} {ms} {most} {out} {at} k = ap length k.bytes ∙ length_sets out at (encode_waits (cons? (waiting.wait_of b c ms) []))
+put_size {b} {c} {ms} {most} {out} {at} k = ap length k.bytes ∙ length-sets out at (encode_waits (cons? (waiting.wait_of b c ms) []))
 
 pub put_one : {b : Bool} {c : Clock} {ms : List ℕ} {most : ℕ} {out : List ℕ} {at : ℕ} {out' : List ℕ} {r : Putting} → waiting.PutWait b c ms most out at out' r → r.count ≤ 1
 put_one {b} {c} {ms} k = let e = k.count in let f = go b in omega arith
@@ -196,7 +196,7 @@ wait_side s p m false x h f g r =
       rows = rw (h.end, y);
       edge = rw (h.end, y);
       members = rw ec;
-      long = h.end ∙ sym (add_zero p);
+      long = h.end ∙ sym (add-zero p);
       none_left = λ e. ec;
       rise = rw ec tt;
       whole = λ e. absurd (false≢true e);

@@ -4,12 +4,12 @@ use mathlib.Core.Path.{◌≡◌, refl, sym, ap, ap₂, ◌∙◌}
 use mathlib.Core.Logic.{◌⊎◌, inl, inr}
 use mathlib.Core.List.{List, [], ◌∷◌, ◌++◌}
 use native.Mathlib.Omega.{arith}
-use native.Mathlib.Numerals.{add_one}
+use native.Mathlib.Numerals.{add-one}
 use lib.Bits.{bit_or, or_add_and, and_le_l, and_le_r}
 use lib.Dec.{eqb}
-use lib.ListN.{length, get_or, take, drop, length_take}
-use lib.Seq.{sets, slice, take-add, take_at, drop_at, drop_cons}
-use borrow.Author.Tests.{eq_eqb, ne_eqb, lt_ltb, le_ltb}
+use lib.ListN.{length, get_or, take, drop, length-take}
+use lib.Seq.{sets, slice, take-add, take_at, drop_at, drop-cons}
+use borrow.Author.Tests.{eq-eqb, ne_eqb, lt-ltb, le-ltb}
 use Rattle.tables.specs.Table.{pick, cons?}
 use Rattle.tables.specs.Zip.{said, past, by_lt}
 use Rattle.tables.specs.Walk.{walked, length_walked}
@@ -35,23 +35,23 @@ actors_take vs k zero h = refl
 actors_take vs k (suc n) h = ap (λ (l : List ℕ). get_or vs k 0 ∷ l) (actors_take vs (k + 1) n (omega arith)) ∙ sym (ap (take (suc n)) (drop_one vs k (omega arith)))
   where
     drop_one : (vs : List ℕ) (k : ℕ) → k < length vs → drop k vs ≡ get_or vs k 0 ∷ drop (k + 1) vs
-    drop_one vs k h = rw add_one (drop_cons vs k 0 h)
+    drop_one vs k h = rw add-one (drop-cons vs k 0 h)
 
 -- ---- one counter
 
 keep_left : (la lb u : ℕ) → (u ≡ 0) ⊎ (lb < u) → keep_of la lb u 0 ≡ u
 unfolding keep_of
 keep_left la lb u (inl e) = rw e
-keep_left la lb u (inr h) = rw (ne_eqb u 0 (λ z. omega arith), lt_ltb lb u h)
+keep_left la lb u (inr h) = rw (ne_eqb u 0 (λ z. omega arith), lt-ltb lb u h)
 
 keep_right : (la lb w : ℕ) → (w ≡ 0) ⊎ (la < w) → keep_of la lb 0 w ≡ w
 unfolding keep_of
 keep_right la lb w (inl e) = rw e
-keep_right la lb w (inr h) = rw (ne_eqb 0 w (λ z. omega arith), le_ltb lb 0 (omega arith), lt_ltb la w h)
+keep_right la lb w (inr h) = rw (ne_eqb 0 w (λ z. omega arith), le-ltb lb 0 (omega arith), lt-ltb la w h)
 
 keep_same : (la lb u : ℕ) → keep_of la lb u u ≡ u
 unfolding keep_of
-keep_same la lb u = rw (eq_eqb u u refl)
+keep_same la lb u = rw (eq-eqb u u refl)
 
 -- ---- along the actors
 
@@ -94,7 +94,7 @@ dots_slice s p n b h =
     let e = encode_dots (dots_at s p n) in
     let l : length e ≡ 12 * n = length_dots (dots_at s p n) ∙ ap (λ (i : ℕ). 12 * i) (length_list_at dot_at (dot_end_in narrow) s p n) in
     let w : drop p s ≡ e ++ drop (p + length e) s = stands_list (dot_form narrow) (faithful_dot narrow sound_narrow) s p n b (rw (steady_end 12 s p n) h) in
-    let t : length (take p s) ≡ p = simp length_take (omega arith) in
+    let t : length (take p s) ≡ p = simp length-take (omega arith) in
     ap (drop p) (take-add p (12 * n) s) ∙ drop_at (take p s) (take (12 * n) (drop p s)) p t ∙ ap (take (12 * n)) w ∙ take_at e (drop (p + length e) s) (12 * n) l
 
 -- a whole copy

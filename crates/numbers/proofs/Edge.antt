@@ -4,19 +4,19 @@ use mathlib.Core.Path.{◌≡◌, refl, sym}
 use mathlib.Core.Bool.{Bool, true, false}
 use mathlib.Core.List.{List}
 use native.Mathlib.Omega.{arith}
-use native.Mathlib.Numerals.{add_one, add_two, add_three}
+use native.Mathlib.Numerals.{add-one, add-two, add-three}
 use lib.Dec.{leb}
 use lib.ListN.{get_or, set}
 use lib.Seq.{sets}
-use borrow.Author.Tests.{leb_true, leb_false, le_leb, lt_leb}
+use borrow.Author.Tests.{leb-true, leb-false, le-leb, lt-leb}
 use Rattle.layout.specs.Fields.{u16_at, u32_at, le32}
 
 pub room_left : (n at len : ℕ) → n ≤ len → leb at (len - n) ≡ leb (at + n) len
 room_left n at len h = go (leb at (len - n)) refl
   where
     go : (b : Bool) → leb at (len - n) ≡ b → b ≡ leb (at + n) len
-    go true e = let l = leb_true at (len - n) e in sym (le_leb (at + n) len (omega arith))
-    go false e = let l = leb_false at (len - n) e in sym (lt_leb (at + n) len (omega arith))
+    go true e = let l = leb-true at (len - n) e in sym (le-leb (at + n) len (omega arith))
+    go false e = let l = leb-false at (len - n) e in sym (lt-leb (at + n) len (omega arith))
 
 module _ (s : List ℕ) (at k : ℕ) where
   after : (i : ℕ) → at + (k + i) ≡ at + k + i
@@ -34,4 +34,4 @@ module _ (s : List ℕ) (at k : ℕ) where
   pub le32_bytes : (v : ℕ) (l₁ l₂ l₃ l₄ : List ℕ) → l₁ ≡ set s (at + k) (v % 256) → l₂ ≡ set l₁ (at + (k + 1)) (v / 256 % 256)
       → l₃ ≡ set l₂ (at + (k + 2)) (v / 65536 % 256) → l₄ ≡ set l₃ (at + (k + 3)) (v / 16777216 % 256) → l₄ ≡ sets s (at + k) (le32 v)
   unfolding le32
-  le32_bytes v l₁ l₂ l₃ l₄ p q r t = rw (t, r, q, p, after 1, after 2, after 3) (simp (add_one, add_two, add_three))
+  le32_bytes v l₁ l₂ l₃ l₄ p q r t = rw (t, r, q, p, after 1, after 2, after 3) (simp (add-one, add-two, add-three))

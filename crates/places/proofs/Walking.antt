@@ -6,8 +6,8 @@ use mathlib.Core.List.{List}
 use native.Mathlib.Omega.{arith}
 use lib.Dec.{eqb, leb}
 use lib.ListN.{length, get_or}
-use lib.Seq.{slice, slice_cons}
-use borrow.Author.Tests.{eq_eqb, ne_eqb, le_leb, lt_leb}
+use lib.Seq.{slice, slice-cons}
+use borrow.Author.Tests.{eq-eqb, ne_eqb, le-leb, lt-leb}
 use Rattle.tables.specs.Table.{pick}
 use Rattle.tables.specs.Zip.{said, past, by_lt, next_past, next_le}
 use Rattle.tables.specs.Turn.{Ahead, after}
@@ -32,7 +32,7 @@ front_of l i n h f few le o = by_lt i n
     (λ k.
     let at : i % 16 ≡ i = omega arith in
     let g : get_or l (i % 16) no_dot ≡ get_or l i no_dot = ap (λ (x : ℕ). get_or l x no_dot) at in
-    let s = slice_cons i n l no_dot k f in
+    let s = slice-cons i n l no_dot k f in
     let x = rw g at (o.here k) in
     record {
       key = record { is = rw s x.0; small = λ t. x.2; fits = f; le = le };
@@ -68,7 +68,7 @@ module _ {v c : List Dot} {n m : ℕ} {whole : Bool} {k i : ℕ} (z : Covering v
         rw (value, next) (rw (ahead v k n no_dot more fits) at z.ahead_is)
 
     pub uncovered : (get_or v k no_dot).counter < p → false ≡ whole
-    uncovered l = rw (lt_leb p (get_or v k no_dot).counter l) at step_is
+    uncovered l = rw (lt-leb p (get_or v k no_dot).counter l) at step_is
 
     pub covered : (i' : ℕ) → i' ≡ after i h.key low → p ≤ (get_or v k no_dot).counter → Covering v c n m whole (k + 1) i'
     covered i' ei l = rw ei (record {
@@ -76,7 +76,7 @@ module _ {v c : List Dot} {n m : ℕ} {whole : Bool} {k i : ℕ} (z : Covering v
       fc = z.fc;
       hk = omega arith;
       hi = rw f.key.is (next_le dots c i m beyond_actors low no_dot s f.key.fits f.key.le);
-      ahead_is = rw (le_leb p (get_or v k no_dot).counter l) at step_is;
+      ahead_is = rw (le-leb p (get_or v k no_dot).counter l) at step_is;
     })
 
   pub cover_end : n ≤ k → m ≤ length c → eqb i m ≡ whole
@@ -85,5 +85,5 @@ module _ {v c : List Dot} {n m : ℕ} {whole : Bool} {k i : ℕ} (z : Covering v
       let y = rw (done v k n h) at z.ahead_is in
       let le = z.hi in
       by_eq i m
-      (λ e. rw (eq_eqb i m e) (rw (done c i m (omega arith)) at y))
-      (λ n. rw (ne_eqb i m n) (rw (slice_cons i m c no_dot (omega arith) f) at y))
+      (λ e. rw (eq-eqb i m e) (rw (done c i m (omega arith)) at y))
+      (λ n. rw (ne_eqb i m n) (rw (slice-cons i m c no_dot (omega arith) f) at y))

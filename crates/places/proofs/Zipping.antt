@@ -3,10 +3,10 @@ use Prim.Native.Nat.{ℕ, ◌≤◌, ◌<◌, ◌+◌, ◌-◌, ◌%◌, min}
 use mathlib.Core.Path.{◌≡◌, refl, sym, ap, ap₂, ◌∙◌, subst}
 use mathlib.Core.List.{List}
 use native.Mathlib.Omega.{arith}
-use native.Mathlib.Nat.{add_zero}
-use native.Mathlib.Numerals.{add_one}
+use native.Mathlib.Nat.{add-zero}
+use native.Mathlib.Numerals.{add-one}
 use lib.Dec.{eqb, lt→ltb}
-use lib.ListN.{length, set, get_or, length_set}
+use lib.ListN.{length, set, get_or, length-set}
 use lib.Seq.{slice, sets, set_out}
 use Rattle.tables.specs.Table.{pick, cons?}
 use Rattle.tables.specs.Turn.{after, low_small, left, right, le_left, le_right, moves}
@@ -35,7 +35,7 @@ stored_none ds c d e = record { store = λ rest. rw e; count = λ rest. rw e; gr
 pub stored_some : (ds : List Dot) (c : ℕ) (d : Dot) → (d.counter ≡ 0 → ⊥) → Stored ds c d (set ds c d) (c + 1)
 stored_some ds c d e =
     let p = proper_dot d (lt→ltb 0 d.counter (omega arith)) in
-    record { store = λ rest. rw (p, add_one); count = λ rest. rw p (omega arith); grows = omega arith; long = length_set ds c d }
+    record { store = λ rest. rw (p, add-one); count = λ rest. rw p (omega arith); grows = omega arith; long = length-set ds c d }
 
 pub stored_full : (ds : List Dot) (c : ℕ) (d : Dot) → (d.counter ≡ 0 → ⊥) → length ds ≤ c → Stored ds c d ds (c + 1)
 stored_full ds c d e h = subst (λ (l : List Dot). Stored ds c d l (c + 1)) (set_out ds c d h) (stored_some ds c d e)
@@ -129,4 +129,4 @@ zip_end {rule} {l} {m} {n} {k} {i = i} {j} z h =
     let hj = z.hj in
     let a = done l i n (omega arith) in
     let b = done m j k (omega arith) in
-    (rw (a, b) at z.store, rw (a, b, add_zero) at z.count)
+    (rw (a, b) at z.store, rw (a, b, add-zero) at z.count)

@@ -6,7 +6,7 @@ use mathlib.Core.Option.{Option, none, some}
 use mathlib.Core.List.{List}
 use lib.Dec.{eqb}
 use lib.ListN.{length}
-use borrow.Author.Tests.{lt_ltb, le_ltb}
+use borrow.Author.Tests.{lt-ltb, le-ltb}
 use Rattle.tables.specs.Table.{pick, is_some}
 use Rattle.tables.specs.Refusal.{first_of}
 use Rattle.dots.specs.declared.Dot.{Dot}
@@ -59,12 +59,12 @@ module _ (s : List ℕ) (op : Op) (c : VClock) (ms : List ℕ) where
   module _ (g : good_image s ≡ true) (n : normalised c ≡ true) where
     pub long_list : 64 < length ms → validation_says LongList ≡ said
     unfolding validate_op_call unfit_arguments first_of validation_says
-    long_list h = rw (g, n, lt_ltb 64 (length ms) h)
+    long_list h = rw (g, n, lt-ltb 64 (length ms) h)
 
     -- arguments that pass: what is said is the operation's gap
     passing : length ms ≤ 64 → gap_said (gap_of op (image_of s)) ≡ said
     unfolding validate_op_call unfit_arguments first_of
-    passing h = rw (g, n, le_ltb 64 (length ms) h) (gap_said_is (gap_of op (image_of s)))
+    passing h = rw (g, n, le-ltb 64 (length ms) h) (gap_said_is (gap_of op (image_of s)))
 
     pub remove_fine : length ms ≤ 64 → op ≡ Remove → validation_says Valid ≡ said
     unfolding validation_says gap_of

@@ -5,9 +5,9 @@ use mathlib.Core.Bool.{true, false}
 use mathlib.Core.Option.{Option, none, some}
 use mathlib.Core.List.{List, [], ◌∷◌, map}
 use native.Mathlib.Omega.{arith}
-use lib.ListN.{length, get_or, take, length_map}
-use lib.Seq.{sets, get_or-take, length_take_le}
-use borrow.Author.Tests.{lt_ltb, le_ltb}
+use lib.ListN.{length, get_or, take, length-map}
+use lib.Seq.{sets, get_or-take, length-take-le}
+use borrow.Author.Tests.{lt-ltb, le-ltb}
 use Rattle.tables.specs.Refusal.{first_of}
 use Rattle.tables.specs.Table.{find, is_some}
 use Rattle.clocks.specs.declared.VClock.{VClock}
@@ -59,7 +59,7 @@ module _ (s : List ℕ) (x : Image) (k : Known s x) where
   ps = take x.entries x.places
 
   counted : length ps ≡ x.entries
-  counted = length_take_le x.entries x.places (omega (arith, k.few, k.long))
+  counted = length-take-le x.entries x.places (omega (arith, k.few, k.long))
 
   pub held : (m i p : ℕ) (rm : VClock) → i ≡ seat_of m (map (u32_at s) ps) → i < x.entries → p ≡ get_or x.places i 0 → rm ≡ vclock (clock_read s (p + 4))
       → record { no = 0; ctx = record { add_clock = x.clock; rm_clock = rm; answer = true } } ≡ contains_call s m
@@ -89,7 +89,7 @@ module _ (s : List ℕ) (x : Image) (k : Known s x) where
       go (q ∷ qs) = ap (λ (y : List ℕ). u32_at s q ∷ y) (go qs)
 
   many : length (members_read s) ≡ x.entries
-  many = ap length (sym named) ∙ length_map ps (u32_at s) ∙ counted
+  many = ap length (sym named) ∙ length-map ps (u32_at s) ∙ counted
 
   size : length (encode_members (members_read s)) ≡ 4 * x.entries
   size = length_encode_members (members_read s) ∙ ap (λ (y : ℕ). 4 * y) many
@@ -97,12 +97,12 @@ module _ (s : List ℕ) (x : Image) (k : Known s x) where
   module _ (out : List ℕ) where
     pub read_short : (c : ReadCtx) → c ≡ no_ctx → length out < 4 * x.entries → ReadMeets s out (record { no = 10; ctx = c; count = 0 }) out
     unfolding read_call read_output read_number members_answer first_of
-    read_short c e h = record { answer = rw (k.is_good, size, lt_ltb (length out) (4 * x.entries) h, e); output = rw (k.is_good, size, lt_ltb (length out) (4 * x.entries) h) }
+    read_short c e h = record { answer = rw (k.is_good, size, lt-ltb (length out) (4 * x.entries) h, e); output = rw (k.is_good, size, lt-ltb (length out) (4 * x.entries) h) }
 
     pub read_done : (after : List ℕ) → 4 * x.entries ≤ length out → after ≡ sets out 0 (encode_members (map (u32_at s) ps))
         → ReadMeets s out (record { no = 0; ctx = record { add_clock = x.clock; rm_clock = x.clock; answer = false }; count = x.entries }) after
     unfolding read_call read_output read_number members_answer first_of read
     read_done after h e = record {
-      answer = rw (k.is_good, size, le_ltb (length out) (4 * x.entries) h, k.clock_is, many);
-      output = rw (k.is_good, size, le_ltb (length out) (4 * x.entries) h, e, named);
+      answer = rw (k.is_good, size, le-ltb (length out) (4 * x.entries) h, k.clock_is, many);
+      output = rw (k.is_good, size, le-ltb (length out) (4 * x.entries) h, e, named);
     }

@@ -5,10 +5,10 @@ use mathlib.Core.Bool.{Bool, true, false}
 use mathlib.Core.Option.{Option, none, some}
 use mathlib.Core.List.{List, [], ◌∷◌, map}
 use native.Mathlib.Omega.{arith}
-use native.Mathlib.Numerals.{add_one}
+use native.Mathlib.Numerals.{add-one}
 use lib.Dec.{eqb}
 use lib.ListN.{length, get_or}
-use borrow.Author.Tests.{eqb_true, eqb_false}
+use borrow.Author.Tests.{eqb-true, eqb-false}
 use Rattle.tables.specs.Order.{nat_order, self}
 use Rattle.tables.specs.Table.{pick, hit, find}
 use Rattle.replica.specs.Replica.{Entry}
@@ -41,8 +41,8 @@ module _ (s : List ℕ) (m : ℕ) where
     where
       go : (b : Bool) → eqb (u32_at s p) m ≡ b → (seat ps < length ps → entry_at ps ≡ some (row_at s (get_or ps (seat ps) 0)))
           → pick b 0 (seat ps + 1) < suc (length ps) → entry_at (p ∷ ps) ≡ some (row_at s (get_or (p ∷ ps) (pick b 0 (seat ps + 1)) 0))
-      go true q r h = hit_same m (u32_at s p) (row_at s p) (entry_at ps) (eqb_true (u32_at s p) m q)
-      go false q r h = rw (add_one (seat ps)) (hit_other m (u32_at s p) (row_at s p) (entry_at ps) (eqb_false (u32_at s p) m q) ∙ r (omega arith))
+      go true q r h = hit_same m (u32_at s p) (row_at s p) (entry_at ps) (eqb-true (u32_at s p) m q)
+      go false q r h = rw (add-one (seat ps)) (hit_other m (u32_at s p) (row_at s p) (entry_at ps) (eqb-false (u32_at s p) m q) ∙ r (omega arith))
 
   pub seat_out : (ps : List ℕ) → length ps ≤ seat ps → entry_at ps ≡ none
   unfolding row_in
@@ -51,4 +51,4 @@ module _ (s : List ℕ) (m : ℕ) where
     where
       go : (b : Bool) → eqb (u32_at s p) m ≡ b → (length ps ≤ seat ps → entry_at ps ≡ none) → suc (length ps) ≤ pick b 0 (seat ps + 1) → entry_at (p ∷ ps) ≡ none
       go true q r h = absurd (omega arith)
-      go false q r h = hit_other m (u32_at s p) (row_at s p) (entry_at ps) (eqb_false (u32_at s p) m q) ∙ r (omega arith)
+      go false q r h = hit_other m (u32_at s p) (row_at s p) (entry_at ps) (eqb-false (u32_at s p) m q) ∙ r (omega arith)

@@ -5,7 +5,7 @@ use mathlib.Core.List.{List, map}
 use native.Mathlib.Omega.{arith}
 use lib.ListN.{length, get_or}
 use lib.Seq.{sets, slice}
-use borrow.Author.Tests.{eq_eqb, ne_eqb, lt_ltb, le_ltb}
+use borrow.Author.Tests.{eq-eqb, ne_eqb, lt-ltb, le-ltb}
 use Rattle.tables.specs.Stores.{sets_append}
 use Rattle.tables.specs.Refusal.{first_of}
 use Rattle.replica.specs.Limits.{full, limits_of}
@@ -25,7 +25,7 @@ module _ (s places : List ℕ) (n i : ℕ) where
 
   module _ (m p k : ℕ) (h : i < n) (l : n ≤ length places) (f : p ≡ get_or places i 0) (e : k ≡ u32_at s p) where
     pub seat_here : k ≡ m → i + seat_of m (members_from i) ≡ i
-    seat_here q = rw (ahead places i n 0 h l, ← f, ← e, eq_eqb k m q) (omega arith)
+    seat_here q = rw (ahead places i n 0 h l, ← f, ← e, eq-eqb k m q) (omega arith)
 
     pub seat_next : (k ≡ m → ⊥) → i + seat_of m (members_from i) ≡ i + 1 + seat_of m (members_from (i + 1))
     seat_next q = rw (ahead places i n 0 h l, ← f, ← e, ne_eqb k m q) (omega arith)
@@ -49,8 +49,8 @@ module _ (s places : List ℕ) (n i : ℕ) where
 module _ (before : List ℕ) where
   pub empty_short : length before < 28 → Meets full empty_call before (record { no = 10; len = 0 }) before
   unfolding number_of answered answer_of output_of limits_of first_of encode_in contents_of contents encode_clock_in bytes_of le16 le32
-  empty_short h = record { answer = rw (lt_ltb (length before) 28 h); output = rw (lt_ltb (length before) 28 h) }
+  empty_short h = record { answer = rw (lt-ltb (length before) 28 h); output = rw (lt-ltb (length before) 28 h) }
 
   pub empty_put : (mid after : List ℕ) → 28 ≤ length before → mid ≡ sets before 0 (contents 28 28 0 28 0) → after ≡ sets mid 24 (le32 0) → Meets full empty_call before (record { no = 0; len = 28 }) after
   unfolding number_of answered answer_of output_of limits_of first_of encode_in contents_of contents encode_clock_in bytes_of le16 le32 length_of rows_from waits_from
-  empty_put mid after h e f = record { answer = rw (le_ltb (length before) 28 h); output = rw (le_ltb (length before) 28 h, f, e) }
+  empty_put mid after h e f = record { answer = rw (le-ltb (length before) 28 h); output = rw (le-ltb (length before) 28 h, f, e) }

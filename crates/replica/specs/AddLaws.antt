@@ -1,12 +1,12 @@
 -- What an add does, dot by dot.
 use Prim.Native.Nat.{ℕ, suc, ◌≤◌, ◌<◌, max, compare, Ordering}
 use Rattle.std.specs.Prelude.{◌≡◌, refl, Bool, not, ◌&&◌, ◌||◌, List, [], ◌∷◌, map, T, leb, ltb}
-use Rattle.std.proofs.Common.{sym, ap₂, ◌∙◌, subst, lt→ltb, leb_false}
+use Rattle.std.proofs.Common.{sym, ap₂, ◌∙◌, subst, lt→ltb, leb-false}
 use Rattle.std.proofs.Math.Path.{ap}
 use Rattle.std.proofs.Math.Bool.{true, false}
 use Rattle.std.proofs.Math.Option.{none}
 use native.Mathlib.Omega.{arith}
-use Rattle.std.proofs.Math.Dec.{compare_is_eq, eqb, leb_zero}
+use Rattle.std.proofs.Math.Dec.{compare_is_eq, eqb, leb-zero}
 use Rattle.tables.specs.Order.{nat_order}
 use Rattle.tables.specs.Truth.{and_i}
 use Rattle.tables.specs.Ascending.{ascending, before}
@@ -89,7 +89,7 @@ taken_killed d ms A m a n = refl
 -- a dot that V doesn't cover is above V's counter
 pub above : (v : Clock) (d : Dot) → covers v (d ∷ []) ≡ false → count v (actor_of d) < d.counter
 unfolding covers
-above v d new = leb_false d.counter (count v (actor_of d)) (go (leb d.counter (count v (actor_of d))) new)
+above v d new = leb-false d.counter (count v (actor_of d)) (go (leb d.counter (count v (actor_of d))) new)
   where
     go : (b : Bool) → (b && true) ≡ false → b ≡ false
     go true e = e
@@ -136,9 +136,9 @@ pub add_seen : (d : Dot) (ms : List ℕ) (A : Replica) → covers A.clock (d ∷
 unfolding add
 add_seen d ms A e = rw e
 
-pub add_zero : (d : Dot) (ms : List ℕ) (A : Replica) → d.counter ≡ 0 → add d ms A ≡ A
+pub add-zero : (d : Dot) (ms : List ℕ) (A : Replica) → d.counter ≡ 0 → add d ms A ≡ A
 unfolding covers
-add_zero d ms A z = add_seen d ms A (rw (z, leb_zero (count A.clock (actor_of d))))
+add-zero d ms A z = add_seen d ms A (rw (z, leb-zero (count A.clock (actor_of d))))
 
 -- "Otherwise each listed member's clock takes the dot, V takes it, then all waiting removes are applied again."
 pub record Added (d : Dot) (ms : List ℕ) (A R : Replica) : Type 0 where

@@ -2,7 +2,7 @@
 use Rattle.std.specs.Prelude.{ℕ, suc, ◌≤◌, max, ◌≡◌, refl, Bool, true, false, ◌&&◌, ◌||◌, List}
 use Rattle.std.proofs.Common.{sym, ◌∙◌, arith}
 use Rattle.std.proofs.Math.Path.{ap, ap₂}
-use Rattle.std.proofs.Math.Bool.{not, and_true}
+use Rattle.std.proofs.Math.Bool.{not, and-true}
 use Rattle.std.proofs.Math.Option.{Option, none}
 use Rattle.std.proofs.Math.Dec.{eqb}
 use Rattle.tables.specs.Table.{get, join, pick, pick_all, ext, normal_join, get_join}
@@ -73,7 +73,7 @@ module _ (A B : Replica) (h : Fine A) (g : Fine B) where
   unfolding staying stay_at stay holds seen
   together_holds m a n =
       ap (λ (x : ℕ). eqb x (suc n)) (keeping_count (stay A B) A B m a)
-      ∙ simp and_true at (keep_one (count (entry A m) a) (count (entry B m) a) (count A.clock a) (count B.clock a) (λ n. false) (λ n. false) (h.within m a) (g.within m a) n)
+      ∙ simp and-true at (keep_one (count (entry A m) a) (count (entry B m) a) (count A.clock a) (count B.clock a) (λ n. false) (λ n. false) (h.within m a) (g.within m a) n)
 
   together_killed : (m a n : ℕ) → killed (together A B) m a n ≡ (killed A m a n || killed B m a n)
   unfolding killed

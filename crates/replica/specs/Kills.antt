@@ -1,7 +1,7 @@
 -- The kill number of a member and an actor: up to which counter waiting removes that name the member cover the actor's dots.
 use Rattle.std.specs.Prelude.{ℕ, suc, ◌<◌, max, ◌≡◌, refl, Bool, true, false, not, ◌&&◌, ◌||◌, List, [], ◌∷◌, leb, ltb}
-use Rattle.std.proofs.Common.{sym, ap₂, ◌∙◌, arith, ltb_true, ltb_false, lt_ltb, le_ltb}
-use Rattle.std.proofs.lemmas.Bool.{lt_leb}
+use Rattle.std.proofs.Common.{sym, ap₂, ◌∙◌, arith, ltb-true, ltb-false, lt-ltb, le-ltb}
+use Rattle.std.proofs.lemmas.Bool.{lt-leb}
 use Rattle.tables.specs.Table.{get, pick, any, every, All}
 use Rattle.dots.specs.Dot.{actor_of}
 use Rattle.dots.specs.Clock.{Clock, count}
@@ -17,12 +17,12 @@ kills_of (w ∷ ws) m a = max (pick (get member_sets w.members m) (count w.clock
 -- a waiting remove that names the member covers a dot exactly if its counter is at most the kill number
 pub kills_number : (ws : List Wait) (m a n : ℕ) → any (kills m a (suc n)) ws ≡ leb (suc n) (kills_of ws m a)
 unfolding kills_of
-kills_number [] m a n = sym (lt_leb (suc n) 0 (omega arith))
+kills_number [] m a n = sym (lt-leb (suc n) 0 (omega arith))
 kills_number (w ∷ ws) m a n = ap₂ ◌||◌ (go (get member_sets w.members m)) (kills_number ws m a n) ∙ sym (leb_max (suc n) (pick (get member_sets w.members m) (count w.clock a) 0) (kills_of ws m a))
   where
     go : (b : Bool) → (b && leb (suc n) (count w.clock a)) ≡ leb (suc n) (pick b (count w.clock a) 0)
     go true = refl
-    go false = sym (lt_leb (suc n) 0 (omega arith))
+    go false = sym (lt-leb (suc n) 0 (omega arith))
 
 pub killed_number : (A : Replica) (m a n : ℕ) → killed A m a (suc n) ≡ leb (suc n) (kills_of A.waiting m a)
 unfolding killed
@@ -48,9 +48,9 @@ ltb_max : (x y n : ℕ) → (ltb x n && ltb y n) ≡ ltb (max x y) n
 ltb_max x y n = go (ltb x n) refl (ltb y n) refl
   where
     go : (a : Bool) → ltb x n ≡ a → (b : Bool) → ltb y n ≡ b → (a && b) ≡ ltb (max x y) n
-    go true u true v = let h = ltb_true x n u in let k = ltb_true y n v in sym (lt_ltb (max x y) n (omega arith))
-    go true u false v = let k = ltb_false y n v in sym (le_ltb (max x y) n (omega arith))
-    go false u b v = let h = ltb_false x n u in sym (le_ltb (max x y) n (omega arith))
+    go true u true v = let h = ltb-true x n u in let k = ltb-true y n v in sym (lt-ltb (max x y) n (omega arith))
+    go true u false v = let k = ltb-false y n v in sym (le-ltb (max x y) n (omega arith))
+    go false u b v = let h = ltb-false x n u in sym (le-ltb (max x y) n (omega arith))
 
 pub spared_number : (ws : List Wait) (e : Entry) → All (λ d. 0 < d.counter) e.clock
     → every (spared e) ws ≡ every (λ d. ltb (kills_of ws e.member (actor_of d)) d.counter) e.clock
@@ -59,7 +59,7 @@ spared_number [] e h = none e.clock h
   where
     none : (c : Clock) → All (λ d. 0 < d.counter) c → true ≡ every (λ d. ltb 0 d.counter) c
     none [] h = refl
-    none (d ∷ c) h = rw (lt_ltb 0 d.counter h.0) (none c h.1)
+    none (d ∷ c) h = rw (lt-ltb 0 d.counter h.0) (none c h.1)
 spared_number (w ∷ ws) e h =
     ap₂ ◌&&◌ (one (get member_sets w.members e.member) e.clock h) (spared_number ws e h)
     ∙ both_every (λ d. ltb (pick (get member_sets w.members e.member) (count w.clock (actor_of d)) 0) d.counter) (λ d. ltb (kills_of ws e.member (actor_of d)) d.counter) e.clock
@@ -71,4 +71,4 @@ spared_number (w ∷ ws) e h =
         → (not b || every (λ d. ltb (count w.clock (actor_of d)) d.counter) c) ≡ every (λ d. ltb (pick b (count w.clock (actor_of d)) 0) d.counter) c
     one true c h = refl
     one false [] h = refl
-    one false (d ∷ c) h = rw (lt_ltb 0 d.counter h.0) (one false c h.1)
+    one false (d ∷ c) h = rw (lt-ltb 0 d.counter h.0) (one false c h.1)

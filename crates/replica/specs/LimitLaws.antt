@@ -1,6 +1,6 @@
 -- Which limits an operation can break, and that what is granted is well-formed, limits included.
 use Rattle.std.specs.Prelude.{ℕ, suc, ◌+◌, ◌≤◌, ◌≡◌, refl, ◌⊎◌, Bool, ◌&&◌, List, [], ◌∷◌, T, leb, ltb, eqb, length}
-use Rattle.std.proofs.Common.{ap, subst, inl, inr, le_trans, arith, leb→le, le_ltb, eqb_true}
+use Rattle.std.proofs.Common.{ap, subst, inl, inr, le_trans, arith, leb→le, le-ltb, eqb-true}
 use Rattle.std.proofs.Math.Bool.{true, false}
 use Rattle.std.proofs.lemmas.Bool.{false≢true}
 use Rattle.std.proofs.Math.Option.{none, some}
@@ -112,17 +112,17 @@ module _ (l : Limits) (A : Replica) (fits : broken l A ≡ 0) where
   unfolding broken limits_of first_of reset
   reset_number c = let R = reset c A in
       only_nine (six R) (seven R) (eight R) (nine R)
-      (le_ltb l.actors (length R.clock) (le_trans (length_reset c A.clock) within.actors_fit))
-      (le_ltb l.members (length R.entries) (le_trans (length_collect (λ e. entry? e.member (reset_by c e.clock)) A.entries) within.members_fit))
-      (le_ltb l.waiting (length R.waiting) (le_trans (length_resets c A.waiting) within.waiting_fit))
+      (le-ltb l.actors (length R.clock) (le_trans (length_reset c A.clock) within.actors_fit))
+      (le-ltb l.members (length R.entries) (le_trans (length_collect (λ e. entry? e.member (reset_by c e.clock)) A.entries) within.members_fit))
+      (le-ltb l.waiting (length R.waiting) (le_trans (length_resets c A.waiting) within.waiting_fit))
 
   -- a remove gives no 6 or 7
   pub remove_number : (c : Clock) (ms : List ℕ) → (broken l (remove c ms A) ≡ 0) ⊎ ((broken l (remove c ms A) ≡ 8) ⊎ (broken l (remove c ms A) ≡ 9))
   unfolding broken limits_of first_of remove
   remove_number c ms = let R = remove c ms A in
       eight_nine (six R) (seven R) (eight R) (nine R)
-      (le_ltb l.actors (length A.clock) within.actors_fit)
-      (le_ltb l.members (length R.entries) (le_trans (length_removed (record { clock = c; members = set_of ms }) A.entries) within.members_fit))
+      (le-ltb l.actors (length A.clock) within.actors_fit)
+      (le-ltb l.members (length R.entries) (le_trans (length_removed (record { clock = c; members = set_of ms }) A.entries) within.members_fit))
 
   -- an add gives no 8 or 9
   pub add_number : (d : Dot) (ms : List ℕ) → (broken l (add d ms A) ≡ 0) ⊎ ((broken l (add d ms A) ≡ 6) ⊎ (broken l (add d ms A) ≡ 7))
@@ -133,12 +133,12 @@ module _ (l : Limits) (A : Replica) (fits : broken l A ≡ 0) where
       R = settle (record { clock = applied A.clock d; entries = takes d ms A.entries; waiting = A.waiting })
 
       uncrowded : All (λ w. crowded w ≡ false) R.waiting
-      uncrowded = all_uncovered (λ w. crowded w ≡ false) R.clock A.waiting (all_map (λ w. length w.members ≤ l.named) (λ w. crowded w ≡ false) A.waiting (λ w k. le_ltb l.named (length w.members) k) within.named_fit)
+      uncrowded = all_uncovered (λ w. crowded w ≡ false) R.clock A.waiting (all_map (λ w. length w.members ≤ l.named) (λ w. crowded w ≡ false) A.waiting (λ w k. le-ltb l.named (length w.members) k) within.named_fit)
 
       go : (b : Bool) → (first_of (limits_of l (pick b A R)) ≡ 0) ⊎ ((first_of (limits_of l (pick b A R)) ≡ 6) ⊎ (first_of (limits_of l (pick b A R)) ≡ 7))
       go true = inl fits
       go false = six_seven (six R) (seven R) (eight R) (nine R)
-          (le_ltb l.waiting (length R.waiting) (le_trans (length_collect (λ w. pick (covers R.clock w.clock) none (some w)) A.waiting) within.waiting_fit))
+          (le-ltb l.waiting (length R.waiting) (le_trans (length_collect (λ w. pick (covers R.clock w.clock) none (some w)) A.waiting) within.waiting_fit))
           (none_any crowded R.waiting uncrowded)
 
 -- ---- what is granted is well-formed
@@ -215,5 +215,5 @@ judged_well_formed l (e ∷ later) A f w =
     judged_well_formed l later (pick (eqb (broken l (step e A)) 0) (step e A) A) (and_r (fits l e) (every (fits l) later) f) (go (eqb (broken l (step e A)) 0) refl)
   where
     go : (b : Bool) → eqb (broken l (step e A)) 0 ≡ b → T (well_formed l (pick b (step e A) A))
-    go true u = step_well_formed l e A (and_l (fits l e) (every (fits l) later) f) w (eqb_true (broken l (step e A)) 0 u)
+    go true u = step_well_formed l e A (and_l (fits l e) (every (fits l) later) f) w (eqb-true (broken l (step e A)) 0 u)
     go false u = w

@@ -4,7 +4,7 @@ use Rattle.std.specs.Prelude.{◌≡◌, ◌↔◌, Bool, true, false, ◌&&◌,
 use native.Mathlib.Omega.{arith}
 use Rattle.std.proofs.Math.Dec.{T, leb→le, le→leb, eqb→eq}
 use Rattle.std.proofs.Math.ListN.{length}
-use Rattle.std.proofs.Common.{ltb_false, le_ltb, eq_eqb}
+use Rattle.std.proofs.Common.{ltb-false, le-ltb, eq-eqb}
 use Rattle.tables.specs.Order.{nat_order}
 use Rattle.tables.specs.Ascending.{ascending, before, asc_from}
 use Rattle.tables.specs.Truth.{and_l, and_r, and_i}
@@ -72,21 +72,21 @@ module _ (l : Limits) (A : Replica) where
 
       there : All (λ r. r.applies ≡ false) (limits_of l A) → Within l A
       there h = record {
-        actors_fit = ltb_false l.actors (length A.clock) h.0;
-        members_fit = ltb_false l.members (length A.entries) h.1.0;
-        waiting_fit = ltb_false l.waiting (length A.waiting) h.1.1.0;
+        actors_fit = ltb-false l.actors (length A.clock) h.0;
+        members_fit = ltb-false l.members (length A.entries) h.1.0;
+        waiting_fit = ltb-false l.waiting (length A.waiting) h.1.1.0;
         named_fit = all_map (λ w. crowded w ≡ false) (λ w. length w.members ≤ l.named) A.waiting
-            (λ w e. ltb_false l.named (length w.members) e) (any_none crowded A.waiting h.1.1.1.0);
+            (λ w e. ltb-false l.named (length w.members) e) (any_none crowded A.waiting h.1.1.1.0);
       }
 
       back : Within l A → All (λ r. r.applies ≡ false) (limits_of l A)
       back w = (
-        le_ltb l.actors (length A.clock) w.actors_fit,
+        le-ltb l.actors (length A.clock) w.actors_fit,
         (
-          le_ltb l.members (length A.entries) w.members_fit,
+          le-ltb l.members (length A.entries) w.members_fit,
           (
-            le_ltb l.waiting (length A.waiting) w.waiting_fit,
-            (none_any crowded A.waiting (all_map (λ w. length w.members ≤ l.named) (λ w. crowded w ≡ false) A.waiting (λ w k. le_ltb l.named (length w.members) k) w.named_fit), tt),
+            le-ltb l.waiting (length A.waiting) w.waiting_fit,
+            (none_any crowded A.waiting (all_map (λ w. length w.members ≤ l.named) (λ w. crowded w ≡ false) A.waiting (λ w k. le-ltb l.named (length w.members) k) w.named_fit), tt),
           ),
         ),
       )
@@ -110,5 +110,5 @@ module _ (l : Limits) (A : Replica) where
   unfolding well_formed
   well_formed_to s b c =
       and_i (sound A) (eqb (broken l A) 0 && every short A.waiting) s
-      (and_i (eqb (broken l A) 0) (every short A.waiting) (rw (eq_eqb (broken l A) 0 b) tt)
+      (and_i (eqb (broken l A) 0) (every short A.waiting) (rw (eq-eqb (broken l A) 0 b) tt)
       (all_every short A.waiting (all_map (λ w. length w.clock ≤ l.actors) (λ w. T (short w)) A.waiting (λ w k. le→leb (length w.clock) l.actors k) c)))

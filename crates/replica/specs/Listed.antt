@@ -2,7 +2,7 @@
 use Prim.Native.Nat.{ℕ, compare}
 use Rattle.std.specs.Prelude.{◌≡◌, refl, Bool, List, []}
 use Rattle.std.proofs.Common.{◌∙◌}
-use Rattle.std.proofs.Math.Bool.{or_false}
+use Rattle.std.proofs.Math.Bool.{or-false}
 use Rattle.tables.specs.Order.{nat_order}
 use Rattle.tables.specs.Table.{Normal, Proper, get, has, asc_union, has_union, all_any, map_id}
 use Rattle.replica.specs.Replica.{member_sets}
@@ -14,7 +14,7 @@ listed ms m = has compare m ms
 
 pub set_listed : (ms : List ℕ) (m : ℕ) → get member_sets (set_of ms) m ≡ listed ms m
 unfolding set_of
-set_listed ms m = has_union compare nat_order m ms [] ∙ or_false (listed ms m)
+set_listed ms m = has_union compare nat_order m ms [] ∙ or-false (listed ms m)
 
 pub set_normal : (ms : List ℕ) → Normal member_sets (set_of ms)
 unfolding set_of

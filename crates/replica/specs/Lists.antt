@@ -4,7 +4,7 @@ use Rattle.std.specs.Prelude.{◌≡◌, refl, Bool, ◌||◌, List, [], ◌∷�
 use Rattle.std.proofs.Common.{sym, ap, ap₂, ◌∙◌, subst, arith}
 use Rattle.std.proofs.Math.Bool.{or_assoc}
 use Rattle.std.proofs.Math.Option.{Option}
-use Rattle.std.proofs.lemmas.List.{length_map}
+use Rattle.std.proofs.lemmas.List.{length-map}
 use Rattle.tables.specs.Truth.{or_l, or_r, or_e}
 use Rattle.tables.specs.Table.{Kind, All, any, get, put, ins, union, all_sift}
 use Rattle.tables.specs.Zip.{zip}
@@ -87,5 +87,5 @@ length_zip S h xs ys =
     let f : S.Key → Option S.Row = λ k. S.row k (h k (get S xs k) (get S ys k)) in
     let c = length_collect f (union S.cmp (map S.key xs) (map S.key ys)) in
     let u = length_union S.cmp (map S.key xs) (map S.key ys) in
-    let x = length_map xs S.key in let y = length_map ys S.key in
+    let x = length-map xs S.key in let y = length-map ys S.key in
     omega arith

@@ -1,11 +1,11 @@
 -- Which members a merge has, in words.
 use Prim.Native.Nat.{ℕ, zero, suc, ◌≤◌, ◌<◌, compare}
 use Rattle.std.specs.Prelude.{◌≡◌, refl, ◌↔◌, ◌⊎◌, Bool, true, false, not, ◌||◌, List, [], ◌∷◌, T, leb, eqb}
-use Rattle.std.proofs.Common.{sym, ap, ◌∙◌, inl, inr, arith, not_suc_le_zero, T_not, leb→le, eqb→eq, eq_eqb}
+use Rattle.std.proofs.Common.{sym, ap, ◌∙◌, inl, inr, arith, not-suc-le-zero, T_not, leb→le, eqb→eq, eq-eqb}
 use Rattle.std.proofs.lemmas.Bool.{false≢true}
 use Rattle.std.proofs.Math.Option.{Option, none, some}
 use Rattle.std.proofs.Math.Arith.{lt→nleb}
-use Rattle.std.proofs.Math.Dec.{not_T, nleb→lt, eqb_zero_suc}
+use Rattle.std.proofs.Math.Dec.{not_T, nleb→lt, eqb-zero-suc}
 use Rattle.tables.specs.Order.{nat_order, self}
 use Rattle.tables.specs.Truth.{and_l, and_r, and_i, or_l, or_r, or_e, nor_l, nor_r, nor_i}
 use Rattle.tables.specs.Table.{get, Normal, Proper, is_some, row_at, all_at}
@@ -38,14 +38,14 @@ in_holds A h m t = go (row_at entries A.entries m) refl t
         let p = all_at entries (Proper entries) A.entries h.entries_ok.proper m x e in
         let q : entry A m ≡ x.clock = ap clock_of e in
         let d = first_dot (entry A m) (h.each m) (λ z. false≢true (ap is_some (ap (entry? x.member) (sym z ∙ q) ∙ p))) in
-        (d.0, d.1, rw (eq_eqb (count (entry A m) d.0) (suc d.1) d.2) tt)
+        (d.0, d.1, rw (eq-eqb (count (entry A m) d.0) (suc d.1) d.2) tt)
 
 pub holds_in : (A : Replica) (m a n : ℕ) → T (holds A m a (suc n)) → T (is_in A m)
 unfolding is_in holds
 holds_in A m a n t = go (row_at entries A.entries m) refl
   where
     go : (o : Option Entry) → row_at entries A.entries m ≡ o → T (is_some o)
-    go none e = let z : T (eqb 0 (suc n)) = rw e at t in rw (eqb_zero_suc n) at z
+    go none e = let z : T (eqb 0 (suc n)) = rw e at t in rw (eqb-zero-suc n) at z
     go (some x) e = tt
 
 -- ---- in words
@@ -85,9 +85,9 @@ clear_to A h m a n f = not_T (killed A m a n)
 brings_to : (A B : Replica) (m a n : ℕ) → Brings A B m a n → T (holds A m a n) × T (holds B m a n || not (seen B a n))
 unfolding holds seen
 brings_to A B m a n h = (
-  rw (eq_eqb (count (entry A m) a) n h.0) tt,
+  rw (eq-eqb (count (entry A m) a) n h.0) tt,
   elim h.1 [
-    | inl e ↦ or_l (holds B m a n) (not (seen B a n)) (rw (eq_eqb (count (entry B m) a) n e) tt)
+    | inl e ↦ or_l (holds B m a n) (not (seen B a n)) (rw (eq-eqb (count (entry B m) a) n e) tt)
     | inr l ↦ or_r (holds B m a n) (not (seen B a n)) (lt→nleb n (count B.clock a) l)
   ],
 )
@@ -150,5 +150,5 @@ membership A B M h g r m = (there, λ k. back k.actor k.counter k.some_dot k.hel
         record { actor = d.0; counter = suc d.1; some_dot = omega arith; held = l.0; clear = l.1 }
 
     back : (a n : ℕ) → 0 < n → Brings A B m a n ⊎ Brings B A m a n → Clear A m a n → Clear B m a n → T (is_in M m)
-    back a zero z k p q = absurd (not_suc_le_zero z)
+    back a zero z k p q = absurd (not-suc-le-zero z)
     back a (suc n) z k p q = holds_in M m a n (rw (r.holds_is m a n) (live_to A B h g m a (suc n) k p q))

@@ -1,10 +1,10 @@
 -- What becomes of one dot of one member. In Booleans: `h` says that a side holds it, `s` that its clock has seen it, `k` that a waiting remove that
 -- names the member covers it. In numbers: `e` and `f` are the counters that two entries have for an actor, `v` and `w` those of the clocks.
 use Rattle.std.specs.Prelude.{ℕ, suc, ◌≤◌, ◌<◌, ◌≡◌, refl, Bool, true, false, not, ◌&&◌, ◌||◌, List, [], ◌∷◌, T, leb, eqb}
-use Rattle.std.proofs.Common.{ap, ap₂, ◌∙◌, arith, eqb_true, leb_false, eq_eqb, ne_eqb, le_leb}
+use Rattle.std.proofs.Common.{ap, ap₂, ◌∙◌, arith, eqb-true, leb-false, eq-eqb, ne_eqb, le-leb}
 use Rattle.std.specs.Bool.{beq}
-use Rattle.std.proofs.Math.Dec.{eqb_zero_suc}
-use Rattle.std.proofs.lemmas.Bool.{not_true}
+use Rattle.std.proofs.Math.Dec.{eqb-zero-suc}
+use Rattle.std.proofs.lemmas.Bool.{not-true}
 use Rattle.tables.specs.Truth.{Test, table, imp, mp, and_l, beq→eq}
 use Rattle.tables.specs.Table.{All, alls, alls_to, pick}
 
@@ -77,7 +77,7 @@ kept_one stay e f = pick (stay e) e (pick (stay f) f 0)
 keep_eqb : (b c : Bool) (e f n : ℕ) → eqb (pick b e (pick c f 0)) (suc n) ≡ pick b (eqb e (suc n)) (pick c (eqb f (suc n)) false)
 keep_eqb true c e f n = refl
 keep_eqb false true e f n = refl
-keep_eqb false false e f n = eqb_zero_suc n
+keep_eqb false false e f n = eqb-zero-suc n
 
 module _ (e f v w : ℕ) (kA kB : ℕ → Bool) (p : e ≤ v) (q : f ≤ w) where
   abbrev L : ℕ → Bool
@@ -115,12 +115,12 @@ module _ (e f v w : ℕ) (kA kB : ℕ → Bool) (p : e ≤ v) (q : f ≤ w) wher
       over x y t =
           let t' : T (not (leb (suc n) v) && not (kA (suc n) || kB (suc n))) = rw (x, y) at t in
           let u : not (leb (suc n) v) ≡ true = is_true (not (leb (suc n) v)) (and_l (not (leb (suc n) v)) (not (kA (suc n) || kB (suc n))) t') in
-          let h : v < suc n = leb_false (suc n) v (not_true (leb (suc n) v) u) in
-          let g : f ≡ suc n = eqb_true f (suc n) y in
-          rw (eq_eqb e e refl, ne_eqb f e (λ z. omega arith), le_leb e w (omega arith))
+          let h : v < suc n = leb-false (suc n) v (not-true (leb (suc n) v) u) in
+          let g : f ≡ suc n = eqb-true f (suc n) y in
+          rw (eq-eqb e e refl, ne_eqb f e (λ z. omega arith), le-leb e w (omega arith))
 
       go : (a b : Bool) → eqb e (suc n) ≡ a → eqb f (suc n) ≡ b → pick (L e) a (pick (L f) b false) ≡ L (suc n)
-      go true true x y = ap₂ (λ (b c : Bool). pick b true (pick c true false)) (ap L (eqb_true e (suc n) x)) (ap L (eqb_true f (suc n) y)) ∙ both (L (suc n))
-      go true false x y = first (L e) (L f) ∙ ap L (eqb_true e (suc n) x)
-      go false true x y = ap (λ (c : Bool). pick (L e) false (pick c true false)) (ap L (eqb_true f (suc n) y)) ∙ last (L e) (L (suc n)) (over x y)
+      go true true x y = ap₂ (λ (b c : Bool). pick b true (pick c true false)) (ap L (eqb-true e (suc n) x)) (ap L (eqb-true f (suc n) y)) ∙ both (L (suc n))
+      go true false x y = first (L e) (L f) ∙ ap L (eqb-true e (suc n) x)
+      go false true x y = ap (λ (c : Bool). pick (L e) false (pick c true false)) (ap L (eqb-true f (suc n) y)) ∙ last (L e) (L (suc n)) (over x y)
       go false false x y = rw (x, y) (neither (L e) (L f))

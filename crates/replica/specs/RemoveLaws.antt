@@ -2,10 +2,10 @@
 use Prim.Native.Nat.{ℕ, suc, Ordering}
 use Rattle.std.specs.Prelude.{◌≡◌, refl, ◌≢◌, Bool, true, false, not, ◌&&◌, ◌||◌, List, [], ◌∷◌, T, leb, eqb}
 use Rattle.std.proofs.Common.{sym, ap, ap₂, ◌∙◌, subst, le_trans, T_not}
-use Rattle.std.proofs.Math.Bool.{or_false, and_true}
+use Rattle.std.proofs.Math.Bool.{or-false, and-true}
 use Rattle.std.proofs.lemmas.Bool.{false≢true}
 use Rattle.std.proofs.Math.Option.{Option, none, some}
-use Rattle.std.proofs.Math.Dec.{leb_suc_zero}
+use Rattle.std.proofs.Math.Dec.{leb-suc-zero}
 use Rattle.tables.specs.Truth.{and_l, and_r, or_e}
 use Rattle.tables.specs.Table.{get, Normal, pick, is_some, any, hit}
 use Rattle.dots.specs.Dot.{clocks}
@@ -43,10 +43,10 @@ unfolding killed remove
 remove_killed c ms A h m a n = go (covers A.clock c)
   where
     go : (b : Bool) → any (kills m a n) (pick b A.waiting (join_waits A.waiting (this c ms ∷ []))) ≡ (any (kills m a n) A.waiting || not b && (listed ms m && leb n (count c a)))
-    go true = sym (or_false (any (kills m a n) A.waiting))
+    go true = sym (or-false (any (kills m a n) A.waiting))
     go false =
         joined_kills A.waiting (this c ms ∷ []) h.waiting_ok (one_normal (this c ms)) m a n
-        ∙ ap (λ (b : Bool). any (kills m a n) A.waiting || b) (or_false (kills m a n (this c ms)) ∙ ap (λ (b : Bool). b && leb n (count c a)) (set_listed ms m))
+        ∙ ap (λ (b : Bool). any (kills m a n) A.waiting || b) (or-false (kills m a n (this c ms)) ∙ ap (λ (b : Bool). b && leb n (count c a)) (set_listed ms m))
 
 no_dots : (v c : Clock) → c ≡ [] → covers v c ≡ true
 unfolding covers
@@ -136,7 +136,7 @@ removed c ms A k s = record {
 -- a remove by {} changes nothing
 pub remove_empty : (ms : List ℕ) (A : Replica) → T (sound A) → remove [] ms A ≡ A
 remove_empty ms A s = fine_ext (remove [] ms A) A (remove_fine [] ms A normal_empty h) h (λ a. ap (λ (v : Clock). count v a) r.clock_is)
-    (λ m a n. r.holds_is m a n ∙ go (holds A m a (suc n)) (listed ms m) (leb (suc n) 0) (leb_suc_zero n))
+    (λ m a n. r.holds_is m a n ∙ go (holds A m a (suc n)) (listed ms m) (leb (suc n) 0) (leb-suc-zero n))
     (λ c. ap (λ (ws : List Wait). get waits ws c) (r.wait_seen (no_dots A.clock [] refl)))
   where
     h : Fine A
@@ -146,5 +146,5 @@ remove_empty ms A s = fine_ext (remove [] ms A) A (remove_fine [] ms A normal_em
     r = removed [] ms A (normal_to [] normal_empty) s
 
     go : (x y z : Bool) → z ≡ false → (x && not (y && z)) ≡ x
-    go x true z e = rw e (and_true x)
-    go x false z e = and_true x
+    go x true z e = rw e (and-true x)
+    go x false z e = and-true x

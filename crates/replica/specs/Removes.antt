@@ -1,7 +1,7 @@
 -- Entries under removes: what is left of each member's clock, dot by dot.
 use Rattle.std.specs.Prelude.{ℕ, suc, ◌≡◌, refl, Bool, not, ◌&&◌, ◌||◌, List, [], ◌∷◌, eqb, leb}
 use Rattle.std.proofs.Common.{sym, ap, ◌∙◌}
-use Rattle.std.proofs.Math.Bool.{true, false, and_true}
+use Rattle.std.proofs.Math.Bool.{true, false, and-true}
 use Rattle.std.proofs.Math.Option.{Option, some}
 use Rattle.tables.specs.Table.{get, Normal, Proper, pick, pick_both, any, normal_sift, get_sift}
 use Rattle.dots.specs.Dot.{clocks}
@@ -53,7 +53,7 @@ module _ (w : Wait) where
     where
       go : (b : Bool) → eqb (count (pick b (reset_by w.clock (get entries es m)) (get entries es m)) a) (suc n) ≡ (holds_in es m a (suc n) && not (b && leb (suc n) (count w.clock a)))
       go true = reset_dot w.clock (get entries es m) (h.each m) a n
-      go false = sym (and_true (holds_in es m a (suc n)))
+      go false = sym (and-true (holds_in es m a (suc n)))
 
 -- ---- one after the other
 
@@ -66,7 +66,7 @@ fine_removes (w ∷ ws) es h = fine_removes ws (remove_from w es) (fine_remove w
 pub removes_dot : (ws : List Wait) (es : List Entry) → FineEntries es → (m a n : ℕ)
     → holds_in (removes_from ws es) m a (suc n) ≡ (holds_in es m a (suc n) && not (any (kills m a (suc n)) ws))
 unfolding removes_from
-removes_dot [] es h m a n = sym (and_true (holds_in es m a (suc n)))
+removes_dot [] es h m a n = sym (and-true (holds_in es m a (suc n)))
 removes_dot (w ∷ ws) es h m a n =
     removes_dot ws (remove_from w es) (fine_remove w es h) m a n
     ∙ ap (λ (b : Bool). b && not (any (kills m a (suc n)) ws)) (remove_dot w es h m a n)

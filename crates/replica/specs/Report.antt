@@ -2,7 +2,7 @@
 -- neither side has waiting removes, the rule for merge gives the report's.
 use Prim.Native.Nat.{ℕ, zero, suc, ◌<◌, max}
 use Rattle.std.specs.Prelude.{◌≡◌, ◌↔◌, ◌⊎◌}
-use Rattle.std.proofs.Common.{sym, ap, ◌∙◌, inl, inr, arith, not_suc_le_zero, eq_eqb}
+use Rattle.std.proofs.Common.{sym, ap, ◌∙◌, inl, inr, arith, not-suc-le-zero, eq-eqb}
 use Rattle.std.proofs.lemmas.Bool.{false≢true}
 use Rattle.std.proofs.Math.Option.{none}
 use mathlib.Core.List.{[]}
@@ -77,7 +77,7 @@ u_to A B h g e c i p (inr (x, inr y)) = inr (inr ((p, x), apart A h e c i y, y))
 module _ (A B R : Replica) (h : Fine A) (g : Fine B) (r : Merged A B R) (wA : A.waiting ≡ []) (wB : B.waiting ≡ []) where
   u_counts : (e c i : ℕ) → U (payload A) (payload B) e c i → (0 < c) × (count (entry R e) i ≡ c)
   unfolding holds
-  u_counts e zero i u = absurd (not_suc_le_zero (u_from A B e zero i u).0)
+  u_counts e zero i u = absurd (not-suc-le-zero (u_from A B e zero i u).0)
   u_counts e (suc n) i u =
       let b = u_from A B e (suc n) i u in
       let l = live_to A B h g e i (suc n) b.1 (all_clear A wA e i (suc n)) (all_clear B wB e i (suc n)) in
@@ -85,9 +85,9 @@ module _ (A B R : Replica) (h : Fine A) (g : Fine B) (r : Merged A B R) (wA : A.
 
   counts_u : (e c i : ℕ) → 0 < c → count (entry R e) i ≡ c → U (payload A) (payload B) e c i
   unfolding holds
-  counts_u e zero i p q = absurd (not_suc_le_zero p)
+  counts_u e zero i p q = absurd (not-suc-le-zero p)
   counts_u e (suc n) i p q =
-      let t : T (holds R e i (suc n)) = rw (eq_eqb (count (entry R e) i) (suc n) q) tt in
+      let t : T (holds R e i (suc n)) = rw (eq-eqb (count (entry R e) i) (suc n) q) tt in
       u_to A B h g e (suc n) i p (live_from A B e i (suc n) (rw (r.holds_is e i n) at t)).0
 
   pub report_elements : (e c i : ℕ) → (payload R).E e c i ↔ (merged_payload (payload A) (payload B)).E e c i

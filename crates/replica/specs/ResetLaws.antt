@@ -1,11 +1,11 @@
 -- What a reset does, dot by dot.
 use Prim.Native.Nat.{ℕ, suc, ◌≤◌, Ordering}
 use Rattle.std.specs.Prelude.{◌≡◌, refl, ◌≢◌, Bool, true, false, not, ◌&&◌, ◌||◌, List, [], ◌∷◌, T, leb, ltb, eqb}
-use Rattle.std.proofs.Common.{sym, ap, ap₂, ◌∙◌, subst, arith, leb_true, leb_false, lt_ltb, le_ltb}
-use Rattle.std.proofs.Math.Bool.{and_false, and_true, or_false}
+use Rattle.std.proofs.Common.{sym, ap, ap₂, ◌∙◌, subst, arith, leb-true, leb-false, lt-ltb, le-ltb}
+use Rattle.std.proofs.Math.Bool.{and-false, and-true, or-false}
 use Rattle.std.proofs.lemmas.Bool.{false≢true}
 use Rattle.std.proofs.Math.Option.{Option, none, some}
-use Rattle.std.proofs.Math.Dec.{compare_is_eq, leb_suc_zero}
+use Rattle.std.proofs.Math.Dec.{compare_is_eq, leb-suc-zero}
 use Rattle.tables.specs.Truth.{and_l}
 use Rattle.tables.specs.Table.{All, get, Normal, pick, is_some, any, hit, at_all, normal_sift, get_sift}
 use Rattle.dots.specs.declared.Dot.{Dot}
@@ -100,17 +100,17 @@ resets_kills c (w ∷ ws) m a n = go (reset_by c w.clock) (resets_kills c ws m a
   where
     go : (x : Clock) → any (kills m a (suc n)) (reset_waits c ws) ≡ any (λ w. get member_sets w.members m && leb (suc n) (count (reset_by c w.clock) a)) ws
         → any (kills m a (suc n)) (rewait x w.members (reset_waits c ws)) ≡ (get member_sets w.members m && leb (suc n) (count x a) || any (λ w. get member_sets w.members m && leb (suc n) (count (reset_by c w.clock) a)) ws)
-    go [] l = l ∙ sym (rw (leb_suc_zero n, and_false (get member_sets w.members m)))
+    go [] l = l ∙ sym (rw (leb-suc-zero n, and-false (get member_sets w.members m)))
     go (d ∷ x) l =
         joined_kills (this d x w.members ∷ []) (reset_waits c ws) (one_normal (this d x w.members)) (resets_normal c ws) m a (suc n)
-        ∙ ap₂ ◌||◌ (or_false (kills m a (suc n) (this d x w.members))) l
+        ∙ ap₂ ◌||◌ (or-false (kills m a (suc n) (this d x w.members))) l
 
 reset_covers : (x y n : ℕ) → leb (suc n) (pick (leb x y) 0 x) ≡ (leb (suc n) x && ltb y x)
 reset_covers x y n = go (leb x y) refl
   where
     go : (b : Bool) → leb x y ≡ b → leb (suc n) (pick b 0 x) ≡ (leb (suc n) x && ltb y x)
-    go true e = let k = leb_true x y e in leb_suc_zero n ∙ sym (rw (le_ltb y x k) (and_false (leb (suc n) x)))
-    go false e = let k = leb_false x y e in sym (rw (lt_ltb y x k) (and_true (leb (suc n) x)))
+    go true e = let k = leb-true x y e in leb-suc-zero n ∙ sym (rw (le-ltb y x k) (and-false (leb (suc n) x)))
+    go false e = let k = leb-false x y e in sym (rw (lt-ltb y x k) (and-true (leb (suc n) x)))
 
 -- what each waiting remove of a well-formed replica is
 abbrev WaitOk : Wait → Type 0
@@ -161,7 +161,7 @@ reset_le x v y l = go (leb x y) refl (leb v y) refl
   where
     go : (p : Bool) → leb x y ≡ p → (q : Bool) → leb v y ≡ q → pick p 0 x ≤ pick q 0 v
     go true e q f = omega arith
-    go false e true f = let i = leb_false x y e in let j = leb_true v y f in absurd (omega arith)
+    go false e true f = let i = leb-false x y e in let j = leb-true v y f in absurd (omega arith)
     go false e false f = l
 
 reset_fine : (c : Clock) (A : Replica) → Fine A → Fine (reset c A)

@@ -3,11 +3,11 @@
 use Prim.Native.Nat.{ℕ, zero, suc, ◌≤◌, ◌<◌}
 use Rattle.std.specs.Prelude.{◌≡◌, Bool, true, ◌&&◌, ◌||◌, List, [], ◌∷◌, leb}
 use Rattle.std.proofs.Math.Path.{refl, ap}
-use Rattle.std.proofs.Common.{sym, ◌∙◌, subst, not_suc_le_zero, arith, le→leb, lt→ltb, eqb→eq}
-use Rattle.std.proofs.Math.Bool.{false, not, and_false}
+use Rattle.std.proofs.Common.{sym, ◌∙◌, subst, not-suc-le-zero, arith, le→leb, lt→ltb, eqb→eq}
+use Rattle.std.proofs.Math.Bool.{false, not, and-false}
 use Rattle.std.proofs.lemmas.Bool.{false≢true}
 use Rattle.std.proofs.Math.Dec.{T, ltb, eqb, leb→le}
-use borrow.Author.Tests.{leb_false, ne_eqb, lt_leb, not_true}
+use borrow.Author.Tests.{leb-false, ne_eqb, lt-leb, not-true}
 use Rattle.tables.specs.Truth.{table, imp, mp, and_l, and_r, and_i, or_l, or_r, or_e}
 use Rattle.tables.specs.Table.{get, pick, any, every}
 use Rattle.tables.specs.Zip.{zip, by_lt}
@@ -50,7 +50,7 @@ seen_le A B a n l t = let k = leb→le n (count A.clock a) t in le→leb n (coun
 
 -- what an add leaves of a dot that is gone, by whether the member takes the new dot, which is another
 add_absent : (x y h s k : Bool) → h ≡ false → T (s || k) → (T s → T x → y ≡ false) → (pick x y h && not k) ≡ false
-add_absent x y h s true e t f = and_false (pick x y h)
+add_absent x y h s true e t f = and-false (pick x y h)
 add_absent true y h true false e t f = rw (f tt tt)
 add_absent false y h true false e t f = rw e
 add_absent x y h false false e t f = absurd t
@@ -103,7 +103,7 @@ module _ (A : Replica) (s : T (sound A)) (m a n : ℕ) (g : Gone A m a (suc n)) 
       let hA = holds A m a (suc n) in let hB = holds B m a (suc n) in let sA = seen A a (suc n) in let sB = seen B a (suc n) in
       let kA = killed A m a (suc n) in let kB = killed B m a (suc n) in
       record {
-        absent = r.holds_is m a n ∙ not_true (stay A B m a (suc n) && not (kA || kB)) (true_from (not (stay A B m a (suc n) && not (kA || kB)))
+        absent = r.holds_is m a n ∙ not-true (stay A B m a (suc n) && not (kA || kB)) (true_from (not (stay A B m a (suc n) && not (kA || kB)))
             (mp (not hA && (sA || kA)) (not (stay A B m a (suc n) && not (kA || kB))) (merge_absent hA hB sA sB kA kB) (and_i (not hA) (sA || kA) (rw g.absent tt) g.known)));
         known = still (merge A B) (omega arith) (λ k. merge_killed A B s t m a (suc n) (or_l kA kB k));
       }
@@ -114,12 +114,12 @@ module _ (A : Replica) (s : T (sound A)) (m a n : ℕ) (g : Gone A m a (suc n)) 
       record {
         absent = r.holds_is m a n ∙ ap (λ (b : Bool). b && not (leb (suc n) (count c a))) g.absent;
         known = or_e (seen A a (suc n)) (killed A m a (suc n)) g.known
-            (λ t. or_l (seen (reset c A) a (suc n)) (killed (reset c A) m a (suc n)) (rw (r.clock_is a, lt_leb (count A.clock a) (count c a) (let k = leb→le (suc n) (count A.clock a) t in let l = low in omega arith)) t))
+            (λ t. or_l (seen (reset c A) a (suc n)) (killed (reset c A) m a (suc n)) (rw (r.clock_is a, lt-leb (count A.clock a) (count c a) (let k = leb→le (suc n) (count A.clock a) t in let l = low in omega arith)) t))
             (λ t. or_r (seen (reset c A) a (suc n)) (killed (reset c A) m a (suc n)) (rw (r.killed_is m a n) (any_more (kills m a (suc n)) (λ w. kills m a (suc n) w && ltb (count c a) (count w.clock a)) A.waiting more t)));
       }
     where
       low : count c a < suc n
-      low = leb_false (suc n) (count c a) f
+      low = leb-false (suc n) (count c a) f
 
       more : (w : Wait) → T (kills m a (suc n) w) → T (kills m a (suc n) w && ltb (count c a) (count w.clock a))
       more w t = and_i (kills m a (suc n) w) (ltb (count c a) (count w.clock a)) t
@@ -153,7 +153,7 @@ stays_gone grants (e ∷ later) A f s m a n z g =
 
 remove_takes : (c : Clock) (ms : List ℕ) (A : Replica) → T (normal c) → T (sound A) → (m a n : ℕ) → T (listed ms m) → suc n ≤ count c a → Gone (remove c ms A) m a (suc n)
 unfolding seen
-remove_takes c ms A k s m a n t l = record { absent = r.holds_is m a n ∙ ap (λ (b : Bool). holds A m a (suc n) && not b) here ∙ and_false (holds A m a (suc n)); known = go (covers A.clock c) refl }
+remove_takes c ms A k s m a n t l = record { absent = r.holds_is m a n ∙ ap (λ (b : Bool). holds A m a (suc n) && not b) here ∙ and-false (holds A m a (suc n)); known = go (covers A.clock c) refl }
   where
     r : Removed c ms A (remove c ms A)
     r = removed c ms A k s
@@ -179,7 +179,7 @@ module _ (grants : Event → Replica → Bool) (c : Clock) (ms : List ℕ) (A : 
   -- that follow, in any order, some of them refused by a judge of any kind; not by a replica that was away all the time and still has it. It comes back
   -- only by a dot that c doesn't cover. A reset whose clock covers the dot is the one way to forget. A dot has a counter above 0.
   pub stays_down : (m a n : ℕ) → T (listed ms m) → 0 < n → n ≤ count c a → any (forgets a n) later ≡ false → holds afterwards m a n ≡ false
-  stays_down m a zero t p l z = absurd (not_suc_le_zero p)
+  stays_down m a zero t p l z = absurd (not-suc-le-zero p)
   stays_down m a (suc n) t p l z = (stays_gone grants later (remove c ms A) events_ok removed_sound m a n z (remove_takes c ms A clock_ok replica_ok m a n t l)).absent
 
   -- so a member that was taken down and is there again holds a dot that c doesn't cover, as long as no reset forgets what c covers

@@ -1,10 +1,10 @@
 -- What the validations say: what is granted has no gap, and what is not reported is not double-spent.
 use Rattle.std.specs.Prelude.{ℕ, suc, ◌+◌, ◌≤◌, ◌≡◌, refl, ◌↔◌, Bool, true, false, not, ◌||◌, List, [], ◌∷◌, ◌++◌, map, T, eqb, ltb}
-use Rattle.std.proofs.Common.{sym, ap, ap₂, ◌∙◌, subst, T_not, eqb→eq, ltb_false, le_ltb, eq_eqb}
+use Rattle.std.proofs.Common.{sym, ap, ap₂, ◌∙◌, subst, T_not, eqb→eq, ltb-false, le-ltb, eq-eqb}
 use Rattle.std.proofs.lemmas.Bool.{false≢true}
 use Rattle.std.proofs.Math.Option
 use Rattle.std.proofs.Math.Option.{Option, none, some}
-use Rattle.std.proofs.Math.Dec.{not_T, eqb_zero_suc}
+use Rattle.std.proofs.Math.Dec.{not_T, eqb-zero-suc}
 use Rattle.tables.specs.Truth.{and_l, and_r, and_i}
 use Rattle.tables.specs.Table.{All, Normal, all_map, at_all, pick, is_some, any, row_at, key_at, at_any}
 use Rattle.dots.specs.declared.Dot.{Dot}
@@ -20,12 +20,12 @@ use Rattle.replica.specs.Validate.{validate_op, Triple, reportable, with_theirs,
 -- an add is granted exactly if its dot is at most V's next
 pub add_granted : (d : Dot) (ms : List ℕ) (A : Replica) → (validate_op (Add d ms) A ≡ none) ↔ (d.counter ≤ count A.clock (actor_of d) + 1)
 unfolding validate_op gap
-add_granted d ms A = (λ e. go (ltb (count A.clock (actor_of d) + 1) d.counter) refl e, λ l. rw (le_ltb (count A.clock (actor_of d) + 1) d.counter l))
+add_granted d ms A = (λ e. go (ltb (count A.clock (actor_of d) + 1) d.counter) refl e, λ l. rw (le-ltb (count A.clock (actor_of d) + 1) d.counter l))
   where
     go : (b : Bool) → ltb (count A.clock (actor_of d) + 1) d.counter ≡ b
         → pick {A = Option DotRange} b (some (record { actor = d.actor; start = count A.clock (actor_of d) + 1; end = d.counter })) none ≡ none → d.counter ≤ count A.clock (actor_of d) + 1
     go true u e = absurd (false≢true (sym (ap is_some e)))
-    go false u e = ltb_false (count A.clock (actor_of d) + 1) d.counter u
+    go false u e = ltb-false (count A.clock (actor_of d) + 1) d.counter u
 
 -- the first that passes: it passes, and none before it does
 pub record FirstOf {X : Type 0} (p : X → Bool) (xs : List X) (x : X) : Type 0 where
@@ -74,7 +74,7 @@ held : (es : List Entry) (m a n : ℕ) → T (holds_in es m a (suc n)) → (e : 
 held es m a n t = go (row_at entries es m) refl t
   where
     none_held : T (eqb 0 (suc n)) → ⊥
-    none_held u = subst T (eqb_zero_suc n) u
+    none_held u = subst T (eqb-zero-suc n) u
 
     dot_of : (e : Entry) → row_at entries es m ≡ some e → (o : Option Dot) → row_at clocks e.clock a ≡ o → T (eqb (counter_of o) (suc n))
         → (e : Entry) × (row_at entries es m ≡ some e) × (d : Dot) × (row_at clocks e.clock a ≡ some d) × (d.counter ≡ suc n)
@@ -97,7 +97,7 @@ none_first A B e m k a n ne x y =
     let l = key_at clocks o.clock a d p.3 in
     let c : count t.clock (actor_of d) ≡ d.counter = ap (count t.clock) (sym l) ∙ ap counter_of q.3 ∙ q.4 ∙ sym p.4 in
     let r : T (spent_by o t d) = and_i (not (eqb o.member t.member)) (eqb (count t.clock (actor_of d)) d.counter)
-    (not_T (eqb o.member t.member) (λ z. ne (i ∙ eqb→eq o.member t.member z ∙ sym j))) (rw (eq_eqb (count t.clock (actor_of d)) d.counter c) tt) in
+    (not_T (eqb o.member t.member) (λ z. ne (i ∙ eqb→eq o.member t.member z ∙ sym j))) (rw (eq-eqb (count t.clock (actor_of d)) d.counter c) tt) in
     subst T (sym (any_triples A.entries B.entries) ∙ first_none reportable (triples A.entries B.entries) e)
     (at_any entries (λ o. any (λ t. any (spent_by o t) o.clock) B.entries) A.entries m o p.1
     (at_any entries (λ t. any (spent_by o t) o.clock) B.entries k t q.1 (at_any clocks (spent_by o t) o.clock a d p.3 r)))
@@ -148,9 +148,9 @@ pub record DoubleSpent (A B : Replica) (x : Spent) : Type 0 where
 first_spent_is : (A B : Replica) → Fine A → Fine B → (t : Triple) → first_spent A B ≡ some t → DoubleSpent A B (spent_of t)
 unfolding first_spent reportable holds
 first_spent_is A B h g t e = record {
-  differ = λ z. T_not (eqb t.our.member t.their.member) (and_l (not (eqb t.our.member t.their.member)) (eqb (count t.their.clock a) n) f.passes) (rw (eq_eqb t.our.member t.their.member z) tt);
-  ours = rw (eq_eqb (holds_at A t.our) n (ap (λ (o : Option Entry). count (clock_of o) a) w.0 ∙ ap counter_of w.2)) tt;
-  theirs = rw (eq_eqb (holds_at B t.their) n (ap (λ (o : Option Entry). count (clock_of o) a) w.1 ∙ eqb→eq (count t.their.clock a) n (and_r (not (eqb t.our.member t.their.member)) (eqb (count t.their.clock a) n) f.passes))) tt;
+  differ = λ z. T_not (eqb t.our.member t.their.member) (and_l (not (eqb t.our.member t.their.member)) (eqb (count t.their.clock a) n) f.passes) (rw (eq-eqb t.our.member t.their.member z) tt);
+  ours = rw (eq-eqb (holds_at A t.our) n (ap (λ (o : Option Entry). count (clock_of o) a) w.0 ∙ ap counter_of w.2)) tt;
+  theirs = rw (eq-eqb (holds_at B t.their) n (ap (λ (o : Option Entry). count (clock_of o) a) w.1 ∙ eqb→eq (count t.their.clock a) n (and_r (not (eqb t.our.member t.their.member)) (eqb (count t.their.clock a) n) f.passes))) tt;
 }
   where
     a : ℕ

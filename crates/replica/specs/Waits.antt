@@ -1,7 +1,7 @@
 -- Waiting removes, as clocks that name members: which dots they cover, and what joining two lists of them "by equal clock" gives.
 use Rattle.std.specs.Prelude.{ℕ, ◌≡◌, refl, ◌≢◌, Bool, true, false, ◌||◌, List, [], ◌∷◌, T, leb}
 use Rattle.std.proofs.Common.{sym, ap, ◌∙◌, subst}
-use Rattle.std.proofs.Math.Bool.{or_false, or_comm, or_assoc, or_self}
+use Rattle.std.proofs.Math.Bool.{or-false, or_comm, or_assoc, or_self}
 use Rattle.std.proofs.lemmas.Bool.{false≢true}
 use Rattle.std.proofs.Math.Option.{Option, none, some}
 use Rattle.tables.specs.Order.{self}
@@ -79,7 +79,7 @@ unite_good c = unite_each (GoodWait c) (λ x y p q. (p.0, p.1, both_sets x y p.2
 pub names_unite : (x y : Option (List ℕ)) (m : ℕ) → names (unite x y) m ≡ (names x m || names y m)
 unfolding unite
 names_unite none y m = refl
-names_unite (some x) none m = sym (or_false (get member_sets x m))
+names_unite (some x) none m = sym (or-false (get member_sets x m))
 names_unite (some x) (some y) m = get_zip member_sets (λ m. ◌||◌) x y (λ m. refl) m
 
 pub there_unite : (x y : Option (List ℕ)) → is_some (unite x y) ≡ (is_some x || is_some y)

@@ -2,7 +2,7 @@
 use Prim.Native.Nat.{ℕ, zero, suc, ◌≤◌, ◌<◌, compare}
 use Rattle.std.specs.Prelude.{◌≡◌, Bool, not, ◌||◌, List, [], ◌∷◌, map, leb, ltb}
 use Rattle.std.proofs.Math.Path.{refl, ap, subst}
-use Rattle.std.proofs.Common.{sym, ◌∙◌, arith, T_not, leb→le, lt→ltb, ltb→lt, eqb→eq, eq_eqb}
+use Rattle.std.proofs.Common.{sym, ◌∙◌, arith, T_not, leb→le, lt→ltb, ltb→lt, eqb→eq, eq-eqb}
 use Rattle.std.proofs.Math.Bool.{true, false}
 use Rattle.std.proofs.lemmas.Bool.{false≢true}
 use Rattle.std.proofs.Math.Option.{some}
@@ -177,7 +177,7 @@ module _ (A : Replica) (h : Fine A) where
       go (suc n) x = rw x (test (leb (suc n) (count w.clock (actor_of d))) refl)
         where
           test : (b : Bool) → leb (suc n) (count w.clock (actor_of d)) ≡ b → T (ltb (count w.clock (actor_of d)) (suc n))
-          test true y = absurd (h.free e.member (actor_of d) n (rw (eq_eqb (count (entry A e.member) (actor_of d)) (suc n) (have ∙ x)) tt)
+          test true y = absurd (h.free e.member (actor_of d) n (rw (eq-eqb (count (entry A e.member) (actor_of d)) (suc n) (have ∙ x)) tt)
               (killed_to A e.member (actor_of d) (suc n) w.clock (rw q t) (rw y tt)))
           test false y = lt→ltb (count w.clock (actor_of d)) (suc n) (nleb→lt (suc n) (count w.clock (actor_of d)) (rw y tt))
 

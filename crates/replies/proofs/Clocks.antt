@@ -4,8 +4,8 @@ use mathlib.Core.Path.{◌≡◌, refl, sym, ap, ◌∙◌}
 use mathlib.Core.Bool.{Bool, true, false}
 use mathlib.Core.List.{List}
 use native.Mathlib.Omega.{arith}
-use lib.ListN.{length, length_take}
-use borrow.Author.Tests.{eq_eqb, ne_eqb}
+use lib.ListN.{length, length-take}
+use borrow.Author.Tests.{eq-eqb, ne_eqb}
 use Rattle.tables.specs.Table.{pick}
 use Rattle.clocks.specs.declared.VClock.{VClock}
 use Rattle.clocks.specs.VClock.{dots_of, vclock}
@@ -41,9 +41,9 @@ module _ (s : List ℕ) (end : ℕ) (c : VClock) (ends : end ≡ clock_ends s 0)
   whole_lent n l e = go (good_clock s 0) refl ends
     where
       go : (b : Bool) → good_clock s 0 ≡ b → end ≡ pick b (clock_end s 0) 0 → c ≡ clock_lent s
-      go true g h = rw (g, eq_eqb (clock_end s 0) (length s) (sym h ∙ l)) (e ∙ ap vclock (read_good s 0 g))
+      go true g h = rw (g, eq-eqb (clock_end s 0) (length s) (sym h ∙ l)) (e ∙ ap vclock (read_good s 0 g))
       go false g h = absurd (n h)
 
 -- a clock takes at most 196 bytes
 pub clock_bytes : (c : VClock) → length c.dots ≡ 16 → length (encode_clock (dots_of c)) ≡ 4 + 12 * min c.len 16
-clock_bytes c long = length_encode_clock (dots_of c) ∙ simp (length_take, long)
+clock_bytes c long = length_encode_clock (dots_of c) ∙ simp (length-take, long)

@@ -5,9 +5,9 @@ use mathlib.Core.Bool.{Bool, true, false}
 use mathlib.Core.Option.{none}
 use mathlib.Core.List.{List, []}
 use lib.Dec.{ltb}
-use lib.ListN.{length, length_append}
+use lib.ListN.{length, length-append}
 use lib.Seq.{sets}
-use borrow.Author.Tests.{lt_ltb, le_ltb}
+use borrow.Author.Tests.{lt-ltb, le-ltb}
 use Rattle.tables.specs.Table.{pick}
 use Rattle.tables.specs.Stores.{sets_append}
 use Rattle.dots.specs.declared.DotRange.{DotRange}
@@ -32,17 +32,17 @@ none_named room = go (ltb room 0)
 module _ (before bytes : List ℕ) where
   pub no_room : length before < length bytes → before ≡ sets before 0 (if_room (length before) bytes)
   unfolding if_room
-  no_room h = rw (lt_ltb (length before) (length bytes) h)
+  no_room h = rw (lt-ltb (length before) (length bytes) h)
 
   pub with_room : (after : List ℕ) → length bytes ≤ length before → after ≡ sets before 0 bytes → after ≡ sets before 0 (if_room (length before) bytes)
   unfolding if_room
-  with_room after h e = rw (le_ltb (length before) (length bytes) h) e
+  with_room after h e = rw (le-ltb (length before) (length bytes) h) e
 
 -- ---- a gap
 
 pub gap_length : (g : DotRange) → length (gap_bytes g) ≡ 16
 unfolding gap_bytes
-gap_length g = simp (length_append, length_le64)
+gap_length g = simp (length-append, length_le64)
 
 pub gap_put : (g : DotRange) (o p q : List ℕ) → p ≡ sets o 0 (le64 g.start) → q ≡ sets p 8 (le64 g.end) → q ≡ sets o 0 (gap_bytes g)
 unfolding gap_bytes
@@ -64,9 +64,9 @@ module _ (before : List ℕ) (v : OpValidation) where
 
 pub spent_length : (x : Spent) → length (spent_bytes x) ≡ 20
 unfolding spent_bytes encode_dot_in
-spent_length x = simp (length_append, length_le32, length_le64)
+spent_length x = simp (length-append, length_le32, length_le64)
 
 pub spent_put : (x : Spent) (o p q r s : List ℕ) → p ≡ sets o 0 (le32 (actor_of x.dot)) → q ≡ sets p 4 (le64 x.dot.counter) → r ≡ sets q 12 (le32 x.our) → s ≡ sets r 16 (le32 x.their)
     → s ≡ sets o 0 (spent_bytes x)
 unfolding spent_bytes encode_dot_in
-spent_put x o p q r s e f g h = rw (h, g, f, e) (sym (simp (sets_append, length_append, length_le32, length_le64)))
+spent_put x o p q r s e f g h = rw (h, g, f, e) (sym (simp (sets_append, length-append, length_le32, length_le64)))

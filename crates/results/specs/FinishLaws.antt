@@ -8,7 +8,7 @@ use native.Mathlib.Omega.{arith}
 use Rattle.std.proofs.Math.Dec.{ltb}
 use Rattle.std.proofs.lemmas.List.Edits.{sets}
 use Rattle.std.proofs.Math.Seq.{slice}
-use borrow.Author.Tests.{eqb_true, le_ltb}
+use borrow.Author.Tests.{eqb-true, le-ltb}
 use Rattle.tables.specs.Table.{pick, any}
 use Rattle.tables.specs.Refusal.{first_of}
 use Rattle.clocks.specs.declared.VClock.{VClock}
@@ -47,7 +47,7 @@ module _ (R : Replica) (v : VClock) (d : Draft) (body : List ℕ) (D : Drafted R
 
   number_is : (room : ℕ) → draft_no v d room ≡ first_of (finish_of full R room)
   unfolding draft_no first_of limits_of
-  number_is room = rw (D.most, le_ltb d.end (start_of v) end_after, D.long, D.entries, D.waits, D.end, length_encode narrow R)
+  number_is room = rw (D.most, le-ltb d.end (start_of v) end_after, D.long, D.entries, D.waits, D.end, length_encode narrow R)
 
   unbroken : (room : ℕ) → first_of (finish_of full R room) ≡ 0 → broken full R ≡ 0
   unfolding first_of limits_of broken
@@ -79,5 +79,5 @@ finish_meets c v d body before r after e D f = record {
     same = number_is c.result v d body D (length before) ∙ sym (e (length before))
 
     go : (b : Bool) → eqb (number_of full c (length before)) 0 ≡ b → pick b (sets before 0 (draft_bytes v d body)) before ≡ pick b (sets before 0 (encode c.result)) before
-    go true z = ap (sets before 0) (bytes_are c.result v d body D (unbroken c.result v d body D (length before) (sym (e (length before)) ∙ eqb_true (number_of full c (length before)) 0 z)))
+    go true z = ap (sets before 0) (bytes_are c.result v d body D (unbroken c.result v d body D (length before) (sym (e (length before)) ∙ eqb-true (number_of full c (length before)) 0 z)))
     go false z = refl

@@ -1,17 +1,17 @@
 -- What a promise that is kept says, for any call and any limits: the number is right, what a refusal leaves, what a granted call writes.
 use Prim.Native.Nat.{ℕ, zero, suc, ◌≤◌, ◌<◌, compare}
 use Rattle.std.specs.Prelude.{◌≡◌, refl, ◌↔◌, ◌⊎◌, Bool, T, ltb, take}
-use Rattle.std.proofs.Common.{sym, ◌∙◌, inl, inr, ⊎_elim, zero_add}
+use Rattle.std.proofs.Common.{sym, ◌∙◌, inl, inr, ⊎_elim, zero-add}
 use Rattle.std.proofs.Math.Path.{ap}
 use Rattle.std.proofs.Math.Bool.{true, false}
 use Rattle.std.proofs.lemmas.Bool.{false≢true}
 use mathlib.Core.List.{List, [], ◌∷◌, ◌++◌, map}
 use native.Mathlib.Omega.{arith}
-use Rattle.std.proofs.Math.Dec.{eqb, eqb_suc_zero}
+use Rattle.std.proofs.Math.Dec.{eqb, eqb-suc-zero}
 use Rattle.std.proofs.Math.ListN.{length, drop}
-use Rattle.std.proofs.Math.Seq.{sets, length_sets, take_append_seam, drop_append_seam}
-use Rattle.std.proofs.lemmas.List.Edits.{sets_eq}
-use borrow.Author.Tests.{eq_eqb, ne_eqb, ltb_true, ltb_false, lt_ltb, le_ltb}
+use Rattle.std.proofs.Math.Seq.{sets, length-sets, take-append_seam, drop-append_seam}
+use Rattle.std.proofs.lemmas.List.Edits.{sets-eq}
+use borrow.Author.Tests.{eq-eqb, ne_eqb, ltb-true, ltb-false, lt-ltb, le-ltb}
 use Rattle.tables.specs.Order.{nat_order, nat_lt}
 use Rattle.tables.specs.Truth.{and_l, and_r, and_i}
 use Rattle.tables.specs.Ascending.{is_lt, is_lt_so, before, ascending, asc_from}
@@ -71,8 +71,8 @@ data Turn (x y : ℕ) (short : Bool) (n : ℕ) : Type 0 where
 turn : (x y : ℕ) (short : Bool) → Turn x y short (in_turn x y short)
 turn zero zero true = by_room refl refl refl refl
 turn zero zero false = by_none refl refl refl refl
-turn zero (suc y) short = by_limit refl (omega arith) (rw (eqb_suc_zero y))
-turn (suc x) y short = by_argument (omega arith) (rw (eqb_suc_zero x))
+turn zero (suc y) short = by_limit refl (omega arith) (rw (eqb-suc-zero y))
+turn (suc x) y short = by_argument (omega arith) (rw (eqb-suc-zero x))
 
 module _ {x y n : ℕ} {short : Bool} (small : x < 6) where
   argument_turn : (k : ℕ) → 0 < k → k < 6 → (y ≡ 0) ⊎ (5 < y) → Turn x y short n → (n ≡ k) ↔ (x ≡ k)
@@ -175,8 +175,8 @@ module _ (l : Limits) (c : Call) (before : List ℕ) (r : Written) (after : List
     room_exactly =
         let t = room_turn small (limit_range l c.result).0 in_turn_of in
         let f = unbroken_right l c.result in (
-          λ z. (arguments.0 (t.0 z).0, f.0 (t.0 z).1, ltb_true (length before) (length (encode c.result)) (t.0 z).2),
-          λ z. t.1 (arguments.1 z.0, f.1 z.1, lt_ltb (length before) (length (encode c.result)) z.2),
+          λ z. (arguments.0 (t.0 z).0, f.0 (t.0 z).1, ltb-true (length before) (length (encode c.result)) (t.0 z).2),
+          λ z. t.1 (arguments.1 z.0, f.1 z.1, lt-ltb (length before) (length (encode c.result)) z.2),
         )
 
     -- 0 is given exactly if the arguments pass, the limits hold, and the output has room
@@ -184,8 +184,8 @@ module _ (l : Limits) (c : Call) (before : List ℕ) (r : Written) (after : List
     done_exactly =
         let t = none_turn small in_turn_of in
         let f = unbroken_right l c.result in (
-          λ z. (arguments.0 (t.0 z).0, f.0 (t.0 z).1, ltb_false (length before) (length (encode c.result)) (t.0 z).2),
-          λ z. t.1 (arguments.1 z.0, f.1 z.1, le_ltb (length before) (length (encode c.result)) z.2),
+          λ z. (arguments.0 (t.0 z).0, f.0 (t.0 z).1, ltb-false (length before) (length (encode c.result)) (t.0 z).2),
+          λ z. t.1 (arguments.1 z.0, f.1 z.1, le-ltb (length before) (length (encode c.result)) z.2),
         )
 
   -- ---- what a refusal leaves
@@ -200,7 +200,7 @@ module _ (l : Limits) (c : Call) (before : List ℕ) (r : Written) (after : List
 -- ---- what a granted call writes
 
 from_zero : (before image : List ℕ) → length image ≤ length before → sets before 0 image ≡ image ++ drop (length image) before
-from_zero before image k = rw (sets_eq image before 0 (omega arith), zero_add (length image))
+from_zero before image k = rw (sets-eq image before 0 (omega arith), zero-add (length image))
 
 -- "A granted call writes the result from byte 0, returns its length, and leaves later bytes unchanged."
 pub record Wrote (c : Call) (before : List ℕ) (r : Written) (after : List ℕ) : Type 0 where
@@ -220,7 +220,7 @@ module _ (l : Limits) (c : Call) (before : List ℕ) (r : Written) (after : List
   pub granted_writes : Wrote c before r after
   unfolding answer_of answered output_of number_of
   granted_writes =
-      let z : eqb (first_of (table_of l c (length before))) 0 ≡ true = eq_eqb (first_of (table_of l c (length before))) 0 (sym (number_is l c before r after kept) ∙ done) in
+      let z : eqb (first_of (table_of l c (length before))) 0 ≡ true = eq-eqb (first_of (table_of l c (length before))) 0 (sym (number_is l c before r after kept) ∙ done) in
       let n : r.len ≡ length image = ap (λ (w : Written). w.len) kept.answer ∙ rw z in
       let k = roomy in
       let o : after ≡ sets before 0 image = kept.output ∙ rw z in
@@ -228,7 +228,7 @@ module _ (l : Limits) (c : Call) (before : List ℕ) (r : Written) (after : List
       record {
         length_is = n;
         room = omega arith;
-        image_is = rw (n, s) (take_append_seam image (drop (length image) before));
-        later_kept = rw (n, s) (drop_append_seam image (drop (length image) before));
-        length_kept = ap length o ∙ length_sets before 0 image;
+        image_is = rw (n, s) (take-append_seam image (drop (length image) before));
+        later_kept = rw (n, s) (drop-append_seam image (drop (length image) before));
+        length_kept = ap length o ∙ length-sets before 0 image;
       }

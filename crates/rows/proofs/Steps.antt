@@ -4,10 +4,10 @@ use mathlib.Core.Path.{◌≡◌, refl, sym, ap, ◌∙◌}
 use mathlib.Core.Bool.{Bool, true, false, ◌||◌}
 use mathlib.Core.List.{List}
 use native.Mathlib.Omega.{arith}
-use native.Mathlib.Numerals.{add_one}
+use native.Mathlib.Numerals.{add-one}
 use lib.Dec.{compare_is_eq}
-use lib.ListN.{length, take, drop, get_or, length_take, length_append, drop_of_length_le}
-use lib.Seq.{sets, slice_cons, length_take_le, length_sets, take_all}
+use lib.ListN.{length, take, drop, get_or, length-take, length-append, drop_of_length-le}
+use lib.Seq.{sets, slice-cons, length-take-le, length-sets, take_all}
 use Rattle.tables.specs.Stores.{sets_append}
 use Rattle.tables.specs.Order.{nat_order, self}
 use Rattle.tables.specs.Table.{has, has_cons}
@@ -76,11 +76,11 @@ module _ (s : List ℕ) (p k m : ℕ) where
 pub store_step : (s ms : List ℕ) (n p i : ℕ) → i < n → n ≤ length ms
     → sets (sets s p (le32 (get_or ms i 0))) (p + 4) (encode_members (drop (i + 1) (take n ms))) ≡ sets s p (encode_members (drop i (take n ms)))
 unfolding bytes_of
-store_step s ms n p i h hn = rw (add_one, slice_cons i n ms 0 h hn, sets_append, length_le32)
+store_step s ms n p i h hn = rw (add-one, slice-cons i n ms 0 h hn, sets_append, length_le32)
 
 pub store_end : (s ms : List ℕ) (n p i : ℕ) → n ≤ i → sets s p (encode_members (drop i (take n ms))) ≡ s
 unfolding bytes_of
-store_end s ms n p i h = let e : length (take n ms) ≤ i = simp length_take (omega arith) in rw (drop_of_length_le (take n ms) e)
+store_end s ms n p i h = let e : length (take n ms) ≤ i = simp length-take (omega arith) in rw (drop_of_length-le (take n ms) e)
 
 module _ (ms : List ℕ) (n : ℕ) (e : n ≡ min (length ms) 32) where
   first : take n ms ≡ take 32 ms
@@ -90,7 +90,7 @@ module _ (ms : List ℕ) (n : ℕ) (e : n ≡ min (length ms) 32) where
 
   members_long : 4 + 4 * n ≡ length (counted (take 32 ms))
   unfolding counted
-  members_long = simp (length_append, length_le32, length_encode_members, length_take) (omega arith)
+  members_long = simp (length-append, length_le32, length_encode_members, length-take) (omega arith)
 
   pub members_none : (s : List ℕ) (at : ℕ) → length s ≤ at → Put s at (counted (take 32 ms)) s (4 + 4 * n)
   members_none s at past = record { long = members_long; is = sym (sets_past s at (counted (take 32 ms)) past) }
@@ -98,7 +98,7 @@ module _ (ms : List ℕ) (n : ℕ) (e : n ≡ min (length ms) 32) where
   pub members_done : (s t : List ℕ) (at : ℕ) → t ≡ sets (sets s at (le32 n)) (at + 4) (encode_members (take n ms)) → Put s at (counted (take 32 ms)) t (4 + 4 * n)
   unfolding counted
   members_done s t at w =
-      let l : length (take n ms) ≡ n = length_take_le n ms (omega arith) in
+      let l : length (take n ms) ≡ n = length-take-le n ms (omega arith) in
       record { long = members_long; is = w ∙ rw (← first, l, sets_append, length_le32) }
 
 -- ---- a waiting remove written in two parts
@@ -106,7 +106,7 @@ module _ (ms : List ℕ) (n : ℕ) (e : n ≡ min (length ms) 32) where
 module _ (s t u : List ℕ) (at r k : ℕ) (c : VClock) (ms : List ℕ) (p : Put s at (encode_clock (dots_of c)) t r) where
   wait_long : k ≡ length (counted (take 32 ms)) → r + k ≡ length (encode_wait (wait_of c ms))
   unfolding encode_wait_in counted
-  wait_long b = let a = p.long in simp length_append (omega (arith, simp length_append at b))
+  wait_long b = let a = p.long in simp length-append (omega (arith, simp length-append at b))
 
   pub wait_done : Put t (at + r) (counted (take 32 ms)) u k → Put s at (encode_wait (wait_of c ms)) u (r + k)
   unfolding encode_wait_in counted
@@ -117,7 +117,7 @@ module _ (s t u : List ℕ) (at r k : ℕ) (c : VClock) (ms : List ℕ) (p : Put
 
   pub wait_past : length t ≤ at → Put t at (counted (take 32 ms)) u k → Put s at (encode_wait (wait_of c ms)) u (r + k)
   wait_past h q =
-      let l : length s ≤ at = omega (arith, ap length p.is ∙ length_sets s at (encode_clock (dots_of c))) in record {
+      let l : length s ≤ at = omega (arith, ap length p.is ∙ length-sets s at (encode_clock (dots_of c))) in record {
         long = wait_long q.long;
         is = q.is ∙ sets_past t at (counted (take 32 ms)) h ∙ p.is ∙ sets_past s at (encode_clock (dots_of c)) l ∙ sym (sets_past s at (encode_wait (wait_of c ms)) l);
       }

@@ -1,14 +1,14 @@
 -- What each test of the code says of the definition, for what stands at one place.
 use Prim.Native.Nat.{ℕ, ◌+◌, ◌-◌, ◌*◌, ◌≤◌, ◌<◌, compare, Ordering}
 use mathlib.Core.Path.{◌≡◌, refl, sym, ap, ap₂, ◌∙◌}
-use mathlib.Core.Bool.{Bool, true, false, ◌&&◌, and_false, false≢true}
+use mathlib.Core.Bool.{Bool, true, false, ◌&&◌, and-false, false≢true}
 use mathlib.Core.List.{List, ◌∷◌}
 use native.Mathlib.Omega.{arith}
 use lib.Dec.{ltb, eqb, compare_is_eq}
 use lib.ListN.{length, get_or, take, drop}
-use lib.Seq.{get_or-take, get_or_drop}
-use native.Mathlib.Nat.{add_zero, add_assoc}
-use borrow.Author.Tests.{le_leb, lt_leb, lt_ltb, le_ltb}
+use lib.Seq.{get_or-take, get_or-drop}
+use native.Mathlib.Nat.{add-zero, add_assoc}
+use borrow.Author.Tests.{le-leb, lt-leb, lt-ltb, le-ltb}
 use Rattle.tables.specs.Order.{next, self, lt_gt, gt_lt, nat_order, nat_lt, lt_nat}
 use Rattle.tables.specs.Table.{pick}
 use Rattle.tables.specs.Zip.{by_lt}
@@ -32,14 +32,14 @@ module _ (s : List ℕ) (at w : ℕ) where
   part = take (at + w - at) (drop at s)
 
   part_byte : (k : ℕ) → k < w → get_or part k 0 ≡ get_or s (at + k) 0
-  part_byte k h = get_or-take (at + w - at) (drop at s) k 0 (omega arith) ∙ get_or_drop at s k 0
+  part_byte k h = get_or-take (at + w - at) (drop at s) k 0 (omega arith) ∙ get_or-drop at s k 0
 
   part_u32 : (k : ℕ) → k + 4 ≤ w → u32_at part k ≡ u32_at s (at + k)
   unfolding u32_at
   part_u32 k h = rw (part_byte k (omega arith), part_byte (k + 1) (omega arith), part_byte (k + 2) (omega arith), part_byte (k + 3) (omega arith), ← (add_assoc at k 1), ← (add_assoc at k 2), ← (add_assoc at k 3))
 
   first_u32 : 4 ≤ w → u32_at part 0 ≡ u32_at s at
-  first_u32 h = part_u32 0 h ∙ ap (u32_at s) (add_zero at)
+  first_u32 h = part_u32 0 h ∙ ap (u32_at s) (add-zero at)
 
 pub u32_of_part : (s : List ℕ) (at : ℕ) → u32_at (take (at + 4 - at) (drop at s)) 0 ≡ u32_at s at
 u32_of_part s at = first_u32 s at 4 (omega arith)
@@ -65,26 +65,26 @@ module _ (s : List ℕ) (p k j low : ℕ) (e : k ≡ j + 1) where
 
   pub rise_low : u32_at s p < low → rising low (dots_at s p k) ≡ false
   unfolding rising dot_in
-  rise_low h = rw (first_dot, lt_leb low (u32_at s p) h)
+  rise_low h = rw (first_dot, lt-leb low (u32_at s p) h)
 
   pub rise_zero : u64_at s (p + 4) ≡ 0 → rising low (dots_at s p k) ≡ false
   unfolding rising dot_in
-  rise_zero h = rw (first_dot, le_ltb 0 (u64_at s (p + 4)) (omega arith), and_false)
+  rise_zero h = rw (first_dot, le-ltb 0 (u64_at s (p + 4)) (omega arith), and-false)
 
   pub rise_next : low ≤ u32_at s p → (u64_at s (p + 4) ≡ 0 → ⊥) → rising low (dots_at s p k) ≡ rising (u32_at s p + 1) (dots_at s (p + 12) j)
   unfolding rising dot_in
-  rise_next h z = rw (first_dot, le_leb low (u32_at s p) h, lt_ltb 0 (u64_at s (p + 4)) (omega arith))
+  rise_next h z = rw (first_dot, le-leb low (u32_at s p) h, lt-ltb 0 (u64_at s (p + 4)) (omega arith))
 
   first_member : members_at s p k ≡ u32_at s p ∷ members_at s (p + 4) j
   first_member = list_step u32_at (λ s p. p + 4) s p k j e
 
   pub member_low : u32_at s p < low → rising_members low (members_at s p k) ≡ false
   unfolding rising_members
-  member_low h = rw (first_member, lt_leb low (u32_at s p) h)
+  member_low h = rw (first_member, lt-leb low (u32_at s p) h)
 
   pub member_next : low ≤ u32_at s p → rising_members low (members_at s p k) ≡ rising_members (u32_at s p + 1) (members_at s (p + 4) j)
   unfolding rising_members
-  member_next h = rw (first_member, le_leb low (u32_at s p) h)
+  member_next h = rw (first_member, le-leb low (u32_at s p) h)
 
 pub rise_end : (s : List ℕ) (p k low : ℕ) → k ≤ 0 → rising low (dots_at s p k) ≡ true
 unfolding rising
@@ -99,49 +99,49 @@ member_end s p k low h = rw (list_end u32_at (λ s p. p + 4) s p k h)
 module _ (s : List ℕ) (at : ℕ) where
   pub clock_short : length s < at + 4 → 0 ≡ clock_ends s at
   unfolding clock_ends good_clock_in
-  clock_short h = rw (lt_leb (at + 4) (length s) h)
+  clock_short h = rw (lt-leb (at + 4) (length s) h)
 
   pub clock_many : 16 < u32_at s at → 0 ≡ clock_ends s at
   unfolding clock_ends good_clock_in
-  clock_many h = simp (lt_leb (u32_at s at) 16 h, and_false)
+  clock_many h = simp (lt-leb (u32_at s at) 16 h, and-false)
 
   pub clock_no_room : length s < at + (4 + 12 * u32_at s at) → 0 ≡ clock_ends s at
   unfolding clock_ends good_clock_in clock_end_in
-  clock_no_room h = simp (lt_leb (at + (4 + 12 * u32_at s at)) (length s) h, and_false)
+  clock_no_room h = simp (lt-leb (at + (4 + 12 * u32_at s at)) (length s) h, and-false)
 
   pub clock_falls : (b : Bool) → b ≡ rising 0 (dots_at s (at + 4) (u32_at s at)) → b ≡ false → 0 ≡ clock_ends s at
   unfolding clock_ends good_clock_in clock_in
-  clock_falls b e h = simp (sym e ∙ h, and_false)
+  clock_falls b e h = simp (sym e ∙ h, and-false)
 
   pub clock_stands : u32_at s at ≤ 16 → at + (4 + 12 * u32_at s at) ≤ length s → (b : Bool) → b ≡ rising 0 (dots_at s (at + 4) (u32_at s at)) → b ≡ true
       → at + (4 + 12 * u32_at s at) ≡ clock_ends s at
   unfolding clock_ends good_clock_in clock_in clock_end_in
   clock_stands n room b e h =
       let h4 : at + 4 ≤ length s = omega arith in
-      simp (le_leb (at + 4) (length s) h4, le_leb (u32_at s at) 16 n, le_leb (at + (4 + 12 * u32_at s at)) (length s) room, sym e ∙ h)
+      simp (le-leb (at + 4) (length s) h4, le-leb (u32_at s at) 16 n, le-leb (at + (4 + 12 * u32_at s at)) (length s) room, sym e ∙ h)
 
   pub named_short : length s < at + 4 → 0 ≡ members_end s at
   unfolding members_end good_members_in
-  named_short h = rw (lt_leb (at + 4) (length s) h)
+  named_short h = rw (lt-leb (at + 4) (length s) h)
 
   pub named_many : 32 < u32_at s at → 0 ≡ members_end s at
   unfolding members_end good_members_in
-  named_many h = simp (lt_leb (u32_at s at) 32 h, and_false)
+  named_many h = simp (lt-leb (u32_at s at) 32 h, and-false)
 
   pub named_no_room : length s < at + (4 + 4 * u32_at s at) → 0 ≡ members_end s at
   unfolding members_end good_members_in
-  named_no_room h = simp (lt_leb (at + (4 + 4 * u32_at s at)) (length s) h, and_false)
+  named_no_room h = simp (lt-leb (at + (4 + 4 * u32_at s at)) (length s) h, and-false)
 
   pub named_falls : (b : Bool) → b ≡ rising_members 0 (members_at s (at + 4) (u32_at s at)) → b ≡ false → 0 ≡ members_end s at
   unfolding members_end good_members_in
-  named_falls b e h = simp (sym e ∙ h, and_false)
+  named_falls b e h = simp (sym e ∙ h, and-false)
 
   pub named_stands : u32_at s at ≤ 32 → at + (4 + 4 * u32_at s at) ≤ length s → (b : Bool) → b ≡ rising_members 0 (members_at s (at + 4) (u32_at s at)) → b ≡ true
       → at + (4 + 4 * u32_at s at) ≡ members_end s at
   unfolding members_end good_members_in
   named_stands n room b e h =
       let h4 : at + 4 ≤ length s = omega arith in
-      simp (le_leb (at + 4) (length s) h4, le_leb (u32_at s at) 32 n, le_leb (at + (4 + 4 * u32_at s at)) (length s) room, sym e ∙ h)
+      simp (le-leb (at + 4) (length s) h4, le-leb (u32_at s at) 32 n, le-leb (at + (4 + 4 * u32_at s at)) (length s) room, sym e ∙ h)
 
 -- ---- two dots, two clocks
 
@@ -149,9 +149,9 @@ pub less_is : (a b : ℕ) → ltb a b ≡ is_lt (compare a b)
 less_is a b = go (compare a b) refl
   where
     go : (o : Ordering) → compare a b ≡ o → ltb a b ≡ is_lt o
-    go Ordering.lt e = lt_ltb a b (nat_lt a b e)
-    go Ordering.eq e = let q = nat_order.same a b e in le_ltb a b (omega arith)
-    go Ordering.gt e = let q = nat_lt b a (gt_lt compare nat_order a b e) in le_ltb a b (omega arith)
+    go Ordering.lt e = lt-ltb a b (nat_lt a b e)
+    go Ordering.eq e = let q = nat_order.same a b e in le-ltb a b (omega arith)
+    go Ordering.gt e = let q = nat_lt b a (gt_lt compare nat_order a b e) in le-ltb a b (omega arith)
 
 same_of : (a b : ℕ) → a ≡ b → compare a b ≡ Ordering.eq
 same_of a b e = rw e (self compare nat_order b)
@@ -196,8 +196,8 @@ module _ (s : List ℕ) (p q n m : ℕ) where
 
   pub less_shorter : (i : ℕ) → n ≤ i → ltb i m ≡ less i
   less_shorter i h = by_lt i m
-      (λ k. rw (list_end dot_at (λ s p. p + 12) s (p + 4 + 12 * i) (n - i) (omega arith), ahead_dots q m i k, lt_ltb i m k))
-      (λ k. rw (list_end dot_at (λ s p. p + 12) s (p + 4 + 12 * i) (n - i) (omega arith), list_end dot_at (λ s p. p + 12) s (q + 4 + 12 * i) (m - i) (omega arith), le_ltb i m k))
+      (λ k. rw (list_end dot_at (λ s p. p + 12) s (p + 4 + 12 * i) (n - i) (omega arith), ahead_dots q m i k, lt-ltb i m k))
+      (λ k. rw (list_end dot_at (λ s p. p + 12) s (p + 4 + 12 * i) (n - i) (omega arith), list_end dot_at (λ s p. p + 12) s (q + 4 + 12 * i) (m - i) (omega arith), le-ltb i m k))
 
   module _ (i : ℕ) (h : i < n) (k : i < m) where
     abbrev order : Ordering
@@ -249,23 +249,23 @@ clock_in_dots s p q e z = go (good_clock s p) refl e
 module _ (s : List ℕ) (p low : ℕ) where
   pub row_low : u32_at s p < low → 0 ≡ row_ends s p low
   unfolding row_ends
-  row_low h = rw (lt_leb low (u32_at s p) h)
+  row_low h = rw (lt-leb low (u32_at s p) h)
 
   pub row_empty : u32_at s (p + 4) ≡ 0 → 0 ≡ row_ends s p low
   unfolding row_ends
-  row_empty h = simp (le_ltb 0 (u32_at s (p + 4)) (omega arith), and_false)
+  row_empty h = simp (le-ltb 0 (u32_at s (p + 4)) (omega arith), and-false)
 
   pub row_many : 16 < u32_at s (p + 4) → 0 ≡ row_ends s p low
   unfolding row_ends
-  row_many h = simp (lt_leb (u32_at s (p + 4)) 16 h, and_false)
+  row_many h = simp (lt-leb (u32_at s (p + 4)) 16 h, and-false)
 
   pub row_no_room : length s < row_end s p → 0 ≡ row_ends s p low
   unfolding row_ends
-  row_no_room h = simp (lt_leb (row_end s p) (length s) h, and_false)
+  row_no_room h = simp (lt-leb (row_end s p) (length s) h, and-false)
 
   pub row_stands : low ≤ u32_at s p → (u32_at s (p + 4) ≡ 0 → ⊥) → u32_at s (p + 4) ≤ 16 → row_end s p ≤ length s → row_end s p ≡ row_ends s p low
   unfolding row_ends
-  row_stands h z n room = rw (le_leb low (u32_at s p) h, lt_ltb 0 (u32_at s (p + 4)) (omega arith), le_leb (u32_at s (p + 4)) 16 n, le_leb (row_end s p) (length s) room)
+  row_stands h z n room = rw (le-leb low (u32_at s p) h, lt-ltb 0 (u32_at s (p + 4)) (omega arith), le-leb (u32_at s (p + 4)) 16 n, le-leb (row_end s p) (length s) room)
 
   pub row_none : (e : ℕ) → e ≡ row_ends s p low → e ≡ 0 → chain (laid_tests s p low) true ≡ false
   unfolding row_ends row_end_in
@@ -298,7 +298,7 @@ module _ (s : List ℕ) (p : ℕ) (last : Clock) where
 
   pub wait_early : is_lt (cmp_clock last (clock_at s p)) ≡ false → 0 ≡ wait_ends s p last
   unfolding wait_ends
-  wait_early h = simp (h, and_false)
+  wait_early h = simp (h, and-false)
 
   pub wait_members : (q : ℕ) → q ≡ clock_ends s p → (q ≡ 0 → ⊥) → is_lt (cmp_clock last (clock_at s p)) ≡ true → members_end s q ≡ wait_ends s p last
   unfolding wait_ends members_end wait_end_in

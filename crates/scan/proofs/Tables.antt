@@ -1,14 +1,14 @@
 -- One turn of the loops over entries and over waiting removes, and what each ending says of the whole.
 use Prim.Native.Nat.{ℕ, suc, ◌+◌, ◌≤◌, ◌<◌}
 use mathlib.Core.Path.{◌≡◌, refl, sym, ◌∙◌}
-use mathlib.Core.Bool.{Bool, true, false, ◌&&◌, and_false}
+use mathlib.Core.Bool.{Bool, true, false, ◌&&◌, and-false}
 use mathlib.Core.List.{List, [], ◌∷◌}
 use native.Mathlib.Omega.{arith}
-use native.Mathlib.Numerals.{add_one}
+use native.Mathlib.Numerals.{add-one}
 use lib.Dec.{leb→le}
 use lib.ListN.{length, set, replicate}
 use lib.Seq.{sets}
-use borrow.Author.Tests.{le_leb, lt_leb}
+use borrow.Author.Tests.{le-leb, lt-leb}
 use Rattle.dots.specs.Clock.{Clock}
 use Rattle.dots.specs.Rising.{true_from}
 use Rattle.replica.specs.Limits.{full}
@@ -37,12 +37,12 @@ module _ (end : List ℕ → ℕ → ℕ) (s : List ℕ) (p k j next : ℕ) (e :
   end_turn = rw n (sym (end_step end s p k j e))
 
   pub places_turn : (places : List ℕ) (i : ℕ) → sets (set places i p) (i + 1) (starts_at end s next j) ≡ sets places i (starts_at end s p k)
-  places_turn places i = rw (n, starts_step end s p k j e, add_one)
+  places_turn places i = rw (n, starts_step end s p k j e, add-one)
 
 module _ (s : List ℕ) (p low k j : ℕ) (e : k ≡ j + 1) (next : ℕ) (w : next ≡ row_ends s p low) where
   step : laid_rows s p low k ≡ (chain (laid_tests s p low) true && laid_rows s (row_end s p) (u32_at s p + 1) j)
   unfolding laid_rows
-  step = rw (e, add_one j) (chain_last (laid_tests s p low) (laid_rows s (row_end s p) (u32_at s p + 1) j))
+  step = rw (e, add-one j) (chain_last (laid_tests s p low) (laid_rows s (row_end s p) (u32_at s p + 1) j))
 
   pub rows_stop : next ≡ 0 → laid_rows s p low k ≡ false
   rows_stop z = step ∙ rw (row_none s p low next w z)
@@ -53,7 +53,7 @@ module _ (s : List ℕ) (p low k j : ℕ) (e : k ≡ j + 1) (next : ℕ) (w : ne
 module _ (s : List ℕ) (p : ℕ) (last : Clock) (k j : ℕ) (e : k ≡ j + 1) (next : ℕ) (w : next ≡ wait_ends s p last) where
   step_wait : good_waits s p last k ≡ (chain (wait_tests narrow full s p last) true && good_waits s (wait_end s p) (clock_at s p) j)
   unfolding good_waits_in
-  step_wait = rw (e, add_one j) (chain_last (wait_tests narrow full s p last) (good_waits s (wait_end s p) (clock_at s p) j))
+  step_wait = rw (e, add-one j) (chain_last (wait_tests narrow full s p last) (good_waits s (wait_end s p) (clock_at s p) j))
 
   pub waits_stop : next ≡ 0 → good_waits s p last k ≡ false
   waits_stop z = step_wait ∙ rw (wait_none s p last next w z)
@@ -99,35 +99,35 @@ none_past s = rw (u32_past s (length s) (omega arith))
 module _ (s : List ℕ) (at n : ℕ) where
   pub rows_many : 64 < n → no_table ≡ rows_table s at n
   unfolding rows_table
-  rows_many h = rw (lt_leb n 64 h)
+  rows_many h = rw (lt-leb n 64 h)
 
   pub rows_long : 4294967295 < length s → no_table ≡ rows_table s at n
   unfolding rows_table
-  rows_long h = simp (lt_leb (length s) 4294967295 h, and_false)
+  rows_long h = simp (lt-leb (length s) 4294967295 h, and-false)
 
   pub rows_past : length s < at → no_table ≡ rows_table s at n
   unfolding rows_table
-  rows_past h = simp (lt_leb at (length s) h, and_false)
+  rows_past h = simp (lt-leb at (length s) h, and-false)
 
   pub rows_bad : laid_rows s at 0 n ≡ false → no_table ≡ rows_table s at n
   unfolding rows_table
-  rows_bad h = simp (h, and_false)
+  rows_bad h = simp (h, and-false)
 
   pub waits_many : 16 < n → no_waits ≡ waits_table s at n
   unfolding waits_table
-  waits_many h = rw (lt_leb n 16 h)
+  waits_many h = rw (lt-leb n 16 h)
 
   pub waits_long : 4294967295 < length s → no_waits ≡ waits_table s at n
   unfolding waits_table
-  waits_long h = simp (lt_leb (length s) 4294967295 h, and_false)
+  waits_long h = simp (lt-leb (length s) 4294967295 h, and-false)
 
   pub waits_past : length s < at → no_waits ≡ waits_table s at n
   unfolding waits_table
-  waits_past h = simp (lt_leb at (length s) h, and_false)
+  waits_past h = simp (lt-leb at (length s) h, and-false)
 
   pub waits_bad : good_waits s at [] n ≡ false → no_waits ≡ waits_table s at n
   unfolding waits_table
-  waits_bad h = simp (h, and_false)
+  waits_bad h = simp (h, and-false)
 
   module _ (hl : length s ≤ 4294967295) (ha : at ≤ length s) where
     pub rows_good : n ≤ 64 → (p low k i : ℕ) (places : List ℕ) → k ≤ 0 → laid_rows s p low k ≡ laid_rows s at 0 n → rows_end_at s p k ≡ rows_end_at s at n
@@ -138,7 +138,7 @@ module _ (s : List ℕ) (at n : ℕ) where
         let g' : laid_rows s at 0 n ≡ true = sym g ∙ rw e in
         let h' : rows_end_at s at n ≡ p = sym h ∙ rw e in
         let q' : sets (replicate 64 0) 0 (places_at s at n) ≡ places = sym q ∙ rw e in
-        rw (le_leb n 64 hn, le_leb (length s) 4294967295 hl, le_leb at (length s) ha, g', h', q')
+        rw (le-leb n 64 hn, le-leb (length s) 4294967295 hl, le-leb at (length s) ha, g', h', q')
 
     pub waits_good : n ≤ 16 → (p k i : ℕ) (last : Clock) (places : List ℕ) → k ≤ 0 → good_waits s p last k ≡ good_waits s at [] n → waits_end_at s p k ≡ waits_end_at s at n
         → sets places i (wait_places_at s p k) ≡ sets (replicate 16 0) 0 (wait_places_at s at n) → record { good = true; next = p; places = places } ≡ waits_table s at n
@@ -148,4 +148,4 @@ module _ (s : List ℕ) (at n : ℕ) where
         let g' : good_waits s at [] n ≡ true = sym g ∙ rw e in
         let h' : waits_end_at s at n ≡ p = sym h ∙ rw e in
         let q' : sets (replicate 16 0) 0 (wait_places_at s at n) ≡ places = sym q ∙ rw e in
-        rw (le_leb n 16 hn, le_leb (length s) 4294967295 hl, le_leb at (length s) ha, g', h', q')
+        rw (le-leb n 16 hn, le-leb (length s) 4294967295 hl, le-leb at (length s) ha, g', h', q')

@@ -1,6 +1,6 @@
 -- One turn of a loop over two tables in lists, with a place in each.
 use Rattle.std.specs.Prelude.{ℕ, ◌≤◌, ◌<◌, ◌+◌, ◌-◌, min, ◌≡◌, List, [], eqb, length, take}
-use Rattle.std.proofs.Common.{sym, ap, ap₂, ◌∙◌, arith, length_take, drop_of_length_le}
+use Rattle.std.proofs.Common.{sym, ap, ap₂, ◌∙◌, arith, length-take, drop_of_length-le}
 use Rattle.std.proofs.Math.Seq.{slice}
 use Rattle.tables.specs.Table.{pick, cons?}
 use Rattle.tables.specs.Zip.{Rows, kind, zip, front, said, past, Rise, rise_past, zip_step, zip_nil, next_past, next_le, by_lt, pick_some}
@@ -54,6 +54,6 @@ module _ (N : Rows) (l m : List N.Row) (i n j k e low f g : ℕ) (d : N.Row) (p 
 
 pub end : (N : Rows) (h : ℕ → N.Val → N.Val → N.Val) (l m : List N.Row) (i n j k : ℕ) → n + k ≤ i + j → i ≤ n → j ≤ k → zip (kind N) h (slice i n l) (slice j k m) ≡ []
 end N h l m i n j k le hi hj =
-    let a : slice i n l ≡ [] = drop_of_length_le (take n l) {i = i} (simp length_take (omega arith)) in
-    let b : slice j k m ≡ [] = drop_of_length_le (take k m) {i = j} (simp length_take (omega arith)) in
+    let a : slice i n l ≡ [] = drop_of_length-le (take n l) {i = i} (simp length-take (omega arith)) in
+    let b : slice j k m ≡ [] = drop_of_length-le (take k m) {i = j} (simp length-take (omega arith)) in
     rw (a, b) (zip_nil (kind N) h)

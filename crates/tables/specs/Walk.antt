@@ -2,8 +2,8 @@
 use Prim.Native.Nat.{ℕ, suc, ◌≤◌, ◌<◌, compare, Ordering}
 use Rattle.std.specs.Prelude.{◌≡◌, Bool, true, false, eqb}
 use Rattle.std.proofs.Math.Path.{refl, ap₂}
-use Rattle.std.proofs.Common.{sym, ap, ◌∙◌, subst, eqb_true}
-use Rattle.std.proofs.lemmas.Bool.{false≢true, eqb_false}
+use Rattle.std.proofs.Common.{sym, ap, ◌∙◌, subst, eqb-true}
+use Rattle.std.proofs.lemmas.Bool.{false≢true, eqb-false}
 use Rattle.std.proofs.Math.Option.{Option, none, some}
 use mathlib.Core.List.{List, [], ◌∷◌, map}
 use native.Mathlib.Omega.{arith}
@@ -52,12 +52,12 @@ module _ (N : Rows) where
     where
       go : (c : Bool) → eqb (N.key x) k ≡ c → Sub ks (pick c xs (x ∷ xs))
       go true e j t =
-          let m : N.key x ≡ k = eqb_true (N.key x) k e in
+          let m : N.key x ≡ k = eqb-true (N.key x) k e in
           let d : j ≡ N.key x → ⊥ = λ z. false≢true (sym (has_below (N.key x) (map N.key xs) r.0) ∙ subst (λ (i : ℕ). has compare i (map N.key xs) ≡ true) z t) in
           sym (has_other j k ks (λ z. d (z ∙ sym m))) ∙ s j (has_other j (N.key x) (map N.key xs) d ∙ t)
       go false e j t =
           let f = front_sub k ks (x ∷ xs) b s in
-          let l : k < N.key x = let d = eqb_false (N.key x) k e in omega arith in
+          let l : k < N.key x = let d = eqb-false (N.key x) k e in omega arith in
           let d : j ≡ k → ⊥ = λ z. false≢true (sym (has_below k (map N.key (x ∷ xs)) (below_of k x xs l r)) ∙ subst (λ (i : ℕ). has compare i (map N.key (x ∷ xs)) ≡ true) z t) in
           sym (has_other j k ks d) ∙ s j t
 
@@ -66,15 +66,15 @@ module _ (N : Rows) where
   said_get k (x ∷ xs) r f = go (eqb (N.key x) k) refl
     where
       go : (c : Bool) → eqb (N.key x) k ≡ c → pick c (N.val (some x)) (N.val none) ≡ get (kind N) (x ∷ xs) k
-      go true e = sym (get_first (kind N) x xs) ∙ ap (get (kind N) (x ∷ xs)) (eqb_true (N.key x) k e)
-      go false e = let d = eqb_false (N.key x) k e in sym (get_none (kind N) (x ∷ xs) k (below_of k x xs (omega arith) r))
+      go true e = sym (get_first (kind N) x xs) ∙ ap (get (kind N) (x ∷ xs)) (eqb-true (N.key x) k e)
+      go false e = let d = eqb-false (N.key x) k e in sym (get_none (kind N) (x ∷ xs) k (below_of k x xs (omega arith) r))
 
   pub get_past : (k j : ℕ) (xs : List N.Row) → compare k j ≡ Ordering.lt → get (kind N) (past N k xs) j ≡ get (kind N) xs j
   get_past k j [] h = refl
   get_past k j (x ∷ xs) h = go (eqb (N.key x) k) refl
     where
       go : (c : Bool) → eqb (N.key x) k ≡ c → get (kind N) (pick c xs (x ∷ xs)) j ≡ get (kind N) (x ∷ xs) j
-      go true e = sym (get_after (kind N) x xs j (subst (λ (i : ℕ). compare i j ≡ Ordering.lt) (sym (eqb_true (N.key x) k e)) h))
+      go true e = sym (get_after (kind N) x xs j (subst (λ (i : ℕ). compare i j ≡ Ordering.lt) (sym (eqb-true (N.key x) k e)) h))
       go false e = refl
 
   -- at each key in turn, the value by the rule of what the two tables say there

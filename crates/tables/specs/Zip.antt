@@ -2,9 +2,9 @@
 use Prim.Native.Nat.{ℕ, ◌+◌, ◌≤◌, ◌<◌, compare, min, Ordering}
 use Rattle.std.specs.Prelude.{◌≡◌, Bool, true, false, List, [], ◌∷◌, map, eqb, ltb, length, take, get_or}
 use Rattle.std.proofs.Math.Path.{refl, ap, ap₂, subst}
-use Rattle.std.proofs.Common.{sym, ◌∙◌, arith, add_one, add_zero, length_take, drop_of_length_le, eq_eqb, ne_eqb, ltb_true, ltb_false}
+use Rattle.std.proofs.Common.{sym, ◌∙◌, arith, add-one, add-zero, length-take, drop_of_length-le, eq-eqb, ne_eqb, ltb-true, ltb-false}
 use Rattle.std.proofs.Math.Option.{Option, none, some}
-use Rattle.std.proofs.Math.Seq.{slice, slice_cons}
+use Rattle.std.proofs.Math.Seq.{slice, slice-cons}
 use Rattle.tables.specs.Order.{self, lt_gt, gt_lt, nat_order, nat_lt}
 use Rattle.tables.specs.Table.{Kind, Normal, Proper, get, join, ext, get_join, normal_join, normal_sift, get_sift, collect, cons?, union, find, hit, pick, Below, Asc, find_below, below_trans, below_union, ins_first, union_gt, union_eq}
 
@@ -196,10 +196,10 @@ module _ (N : Rows) where
     zip_step e low [] [] a b l t = absurd (omega arith)
     zip_step e low [] (y ∷ ys) a b l t =
         let s : N.key y ≡ low = omega arith in
-        rw (← s, eq_eqb (N.key y) (N.key y) refl) (zip_right (kind N) h y [] ys tt b.0)
+        rw (← s, eq-eqb (N.key y) (N.key y) refl) (zip_right (kind N) h y [] ys tt b.0)
     zip_step e low (x ∷ xs) [] a b l t =
         let s : N.key x ≡ low = omega arith in
-        rw (← s, eq_eqb (N.key x) (N.key x) refl) (zip_left (kind N) h x xs [] a.0 tt)
+        rw (← s, eq-eqb (N.key x) (N.key x) refl) (zip_left (kind N) h x xs [] a.0 tt)
     zip_step e low (x ∷ xs) (y ∷ ys) a b l t = go (compare (N.key x) (N.key y)) refl
       where
         go : (o : Ordering) → compare (N.key x) (N.key y) ≡ o
@@ -207,43 +207,43 @@ module _ (N : Rows) where
         go Ordering.lt c =
             let m = nat_lt (N.key x) (N.key y) c in
             let s : N.key x ≡ low = omega arith in
-            rw (← s, eq_eqb (N.key x) (N.key x) refl, ne_eqb (N.key y) (N.key x) (λ z. omega arith))
+            rw (← s, eq-eqb (N.key x) (N.key x) refl, ne_eqb (N.key y) (N.key x) (λ z. omega arith))
             (zip_left (kind N) h x xs (y ∷ ys) a.0 (c, below_trans compare nat_order (N.key x) (N.key y) (map N.key ys) c b.0))
         go Ordering.eq c =
             let m : N.key x ≡ N.key y = nat_order.same (N.key x) (N.key y) c in
             let s : N.key x ≡ low = omega arith in
-            rw (← s, eq_eqb (N.key x) (N.key x) refl, eq_eqb (N.key y) (N.key x) (sym m))
+            rw (← s, eq-eqb (N.key x) (N.key x) refl, eq-eqb (N.key y) (N.key x) (sym m))
             (zip_both (kind N) h x y xs ys c a.0 a.1 b.0)
         go Ordering.gt c =
             let c' = gt_lt compare nat_order (N.key x) (N.key y) c in
             let m = nat_lt (N.key y) (N.key x) c' in
             let s : N.key y ≡ low = omega arith in
-            rw (← s, eq_eqb (N.key y) (N.key y) refl, ne_eqb (N.key x) (N.key y) (λ z. omega arith))
+            rw (← s, eq-eqb (N.key y) (N.key y) refl, ne_eqb (N.key x) (N.key y) (λ z. omega arith))
             (zip_right (kind N) h y (x ∷ xs) ys (c', below_trans compare nat_order (N.key y) (N.key x) (map N.key xs) c' a.0) b.0)
 
 pub by_lt : {C : Type 0} (a b : ℕ) → (a < b → C) → (b ≤ a → C) → C
 by_lt {C} a b f g = go (ltb a b) refl
   where
     go : (t : Bool) → ltb a b ≡ t → C
-    go true e = f (ltb_true a b e)
-    go false e = g (ltb_false a b e)
+    go true e = f (ltb-true a b e)
+    go false e = g (ltb-false a b e)
 
 -- ---- the same at places of a list, as a loop has it
 
 module _ (N : Rows) (l : List N.Row) (i n e low : ℕ) (d : N.Row) (small : low < e) (fits : n ≤ length l) where
   ahead : i < n → slice i n l ≡ get_or l i d ∷ slice (i + 1) n l
-  ahead h = rw add_one (slice_cons i n l d h fits)
+  ahead h = rw add-one (slice-cons i n l d h fits)
 
   done : n ≤ i → slice i n l ≡ []
-  done h = drop_of_length_le (take n l) {i = i} (simp length_take (omega arith))
+  done h = drop_of_length-le (take n l) {i = i} (simp length-take (omega arith))
 
   -- the place after the key
   pub next_past : slice (i + pick (eqb (front N e (slice i n l)) low) 1 0) n l ≡ past N low (slice i n l)
-  next_past = by_lt i n (λ h. rw (ahead h) (go (eqb (N.key (get_or l i d)) low) h)) (λ h. rw (done h, ne_eqb e low (λ z. omega arith), add_zero) (done h))
+  next_past = by_lt i n (λ h. rw (ahead h) (go (eqb (N.key (get_or l i d)) low) h)) (λ h. rw (done h, ne_eqb e low (λ z. omega arith), add-zero) (done h))
     where
       go : (b : Bool) → i < n → slice (i + pick b 1 0) n l ≡ pick b (slice (i + 1) n l) (get_or l i d ∷ slice (i + 1) n l)
       go true h = refl
-      go false h = rw add_zero (ahead h)
+      go false h = rw add-zero (ahead h)
 
   pub next_le : i ≤ n → i + pick (eqb (front N e (slice i n l)) low) 1 0 ≤ n
   next_le k = by_lt i n (λ h. go (eqb (front N e (slice i n l)) low) h) (λ h. rw (done h, ne_eqb e low (λ z. omega arith)) (omega arith))
@@ -253,7 +253,7 @@ module _ (N : Rows) (l : List N.Row) (i n e low : ℕ) (d : N.Row) (small : low 
       go false h = omega arith
 
 pub pick_some : (x low : ℕ) → x ≡ low → ◌≡◌ {A = ℕ} (pick (eqb x low) 1 0) 1
-pick_some x low h = rw (eq_eqb x low h)
+pick_some x low h = rw (eq-eqb x low h)
 
 -- ---- where the second table alone says nothing, the first one's rows are kept or changed one by one
 

@@ -5,11 +5,11 @@ use mathlib.Core.Bool.{Bool, true, false, not, ◌&&◌, false≢true}
 use mathlib.Core.Option.{Option, none, some}
 use mathlib.Core.List.{List, [], ◌∷◌, map}
 use native.Mathlib.Omega.{arith}
-use native.Mathlib.Nat.{zero_add, add_zero}
+use native.Mathlib.Nat.{zero-add, add-zero}
 use lib.Dec.{T, eqb, leb→le, ltb→lt}
-use lib.ListN.{length, take, get_or, set, replicate, length_set}
-use lib.Seq.{sets, length_sets, get_or_set_same, get_or_set_other}
-use borrow.Author.Tests.{eq_eqb, ne_eqb}
+use lib.ListN.{length, take, get_or, set, replicate, length-set}
+use lib.Seq.{sets, length-sets, get_or-set_same, get_or-set_other}
+use borrow.Author.Tests.{eq-eqb, ne_eqb}
 use Rattle.tables.specs.Table.{All, Normal, row_at, key_at, all_at, at_all, all_both, every_all}
 use Rattle.tables.specs.Zip.{Rise, by_lt}
 use Rattle.dots.specs.declared.Dot.{Dot}
@@ -42,21 +42,21 @@ apart_turn keys lines j k before r e h t = go (eqb (get_or keys k 0) (get_or lin
     go : (b : Bool) → eqb (get_or keys k 0) (get_or lines (16 * j + k) 0) ≡ b → (not b && before) ≡ true → Apart keys lines j (k + 1)
     go true q f = absurd (false≢true f)
     go false q f = record {
-      differ = λ i l s. by_lt i k (λ m. (h f).differ i m s) (λ m. let x : i ≡ k = omega arith in false≢true (sym q ∙ eq_eqb (get_or keys k 0) (get_or lines (16 * j + k) 0) (rw x at s)));
+      differ = λ i l s. by_lt i k (λ m. (h f).differ i m s) (λ m. let x : i ≡ k = omega arith in false≢true (sym q ∙ eq-eqb (get_or keys k 0) (get_or lines (16 * j + k) 0) (rw x at s)));
     }
 
 -- ---- the lines that are put one after the other
 
 sets_low : (l : List ℕ) (p : ℕ) (xs : List ℕ) (q : ℕ) → q < p → get_or (sets l p xs) q 0 ≡ get_or l q 0
 sets_low l p [] q h = refl
-sets_low l p (x ∷ xs) q h = sets_low (set l p x) (suc p) xs q (omega arith) ∙ get_or_set_other l p q x 0 (λ e. omega arith)
+sets_low l p (x ∷ xs) q h = sets_low (set l p x) (suc p) xs q (omega arith) ∙ get_or-set_other l p q x 0 (λ e. omega arith)
 
 sets_here : (l : List ℕ) (p : ℕ) (xs : List ℕ) (k : ℕ) → k < length xs → p + k < length l → get_or (sets l p xs) (p + k) 0 ≡ get_or xs k 0
 sets_here l p [] k h g = absurd (omega arith)
-sets_here l p (x ∷ xs) zero h g = rw add_zero (sets_low (set l p x) (suc p) xs p (omega arith) ∙ get_or_set_same l p x 0 (omega arith))
+sets_here l p (x ∷ xs) zero h g = rw add-zero (sets_low (set l p x) (suc p) xs p (omega arith) ∙ get_or-set_same l p x 0 (omega arith))
 sets_here l p (x ∷ xs) (suc k) h g =
     let e : p + suc k ≡ suc p + k = omega arith in
-    let f : suc p + k < length (set l p x) = rw length_set (omega arith) in
+    let f : suc p + k < length (set l p x) = rw length-set (omega arith) in
     rw e (sets_here (set l p x) (suc p) xs k (omega arith) f)
 
 length_along : (missing : ℕ) (v c : Clock) → length (keys_of missing v c) ≡ length v
@@ -67,7 +67,7 @@ length_along missing (d ∷ v) c = ap suc (length_along missing v (reach dots (a
 pub lines_turn : (v : Clock) (s places lines lines' : List ℕ) (j m p : ℕ) → j < 64 → m ≤ 16 → length v ≡ m → p ≡ get_or places j 0 → lines' ≡ sets lines (16 * j) (keys_of 0 v (clock_at s (p + 4)))
     → Keyed v s places lines j m → Keyed v s places lines' (j + 1) m
 lines_turn v s places lines lines' j m p h few n e w r = let l = r.long in record {
-  long = rw w (length_sets lines (16 * j) (keys_of 0 v (clock_at s (p + 4))) ∙ l);
+  long = rw w (length-sets lines (16 * j) (keys_of 0 v (clock_at s (p + 4))) ∙ l);
   line = λ i k l g. by_lt i j
       (λ x. rw w (sets_low lines (16 * j) (keys_of 0 v (clock_at s (p + 4))) (16 * i + k) (omega arith) ∙ r.line i k x g))
       (λ x. let y : i ≡ j = omega arith in rw (y, w, ← e) (sets_here lines (16 * j) (keys_of 0 v (clock_at s (p + 4))) k (omega (arith, length_along 0 v (clock_at s (p + 4)))) (omega arith)));
@@ -174,7 +174,7 @@ row_apart a ours b theirs keys lines na nb m i p our n j q g o li lj eq x =
     let rv : Rise dots v = rw (← cv) (passed a g.ours_ok.good).formed.clock_ok.asc in
     let l : length v ≡ m = length_list_at (dot_in narrow) (dot_end_in narrow) a 28 m in
     let d = all_differ os ts v (λ k h e. x.differ k (omega arith)
-    (ap (λ (y : List ℕ). get_or y k 0) o.keys_ok ∙ (rw (zero_add k) at (sets_here (replicate 16 65535) 0 (keys_of 65535 v os) k (omega (arith, length_along 65535 v os)) (omega arith)))
+    (ap (λ (y : List ℕ). get_or y k 0) o.keys_ok ∙ (rw (zero-add k) at (sets_here (replicate 16 65535) 0 (keys_of 65535 v os) k (omega (arith, length_along 65535 v os)) (omega arith)))
     ∙ ap (λ (y : List ℕ). get_or y k 0) (keys_are 65535 v os rv fa.normal_ok.asc)
     ∙ e ∙ sym (g.lines_are.line j k lj (omega arith) ∙ rw (← eq) (ap (λ (y : List ℕ). get_or y k 0) (keys_are 0 v ts rv fb.normal_ok.asc))))) in
     entries_apart v (entry_at a p) (entry_at b q) fa.normal_ok (rw (← cv) fa.covers_ok) fb.normal_ok.asc d

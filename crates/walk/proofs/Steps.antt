@@ -4,7 +4,7 @@ use mathlib.Core.List.{List, []}
 use mathlib.Core.Bool.{Bool, true, false}
 use Prim.Native.Nat.{ℕ, ◌+◌, ◌*◌, ◌-◌, ◌≤◌, ◌<◌}
 use native.Mathlib.Omega.{arith}
-use borrow.Author.Tests.{lt_leb, le_leb, lt_ltb, le_ltb, leb_true, eq_eqb, ne_eqb}
+use borrow.Author.Tests.{lt-leb, le-leb, lt-ltb, le-ltb, leb-true, eq-eqb, ne_eqb}
 use lib.Dec.{leb, ltb}
 use lib.ListN.{length, take, drop}
 use Rattle.tables.specs.Table.{pick}
@@ -18,7 +18,7 @@ use Rattle.walk.specs.Walks.{end_at, start_at, hand_at, part_at, onward_at}
 module _ (s : List ℕ) (at : ℕ) where
   pub end_past : u32_at s 16 ≤ at → 0 ≡ end_at s at
   unfolding end_at
-  end_past p = rw (le_ltb at (u32_at s 16) p)
+  end_past p = rw (le-ltb at (u32_at s 16) p)
 
   module _ (p : at < u32_at s 16) (n : ℕ) (en : n ≡ u32_at s (at + 4)) where
     is_end : at + 4 + (4 + 12 * n) ≡ row_end s at
@@ -27,11 +27,11 @@ module _ (s : List ℕ) (at : ℕ) where
 
     pub end_room : length s < at + 4 + (4 + 12 * n) → 0 ≡ end_at s at
     unfolding end_at
-    end_room r = let r' : length s < row_end s at = rw (← is_end) r in rw (lt_ltb at (u32_at s 16) p, lt_leb (row_end s at) (length s) r')
+    end_room r = let r' : length s < row_end s at = rw (← is_end) r in rw (lt-ltb at (u32_at s 16) p, lt-leb (row_end s at) (length s) r')
 
     pub end_here : at + 4 + (4 + 12 * n) ≤ length s → at + 4 + (4 + 12 * n) ≡ end_at s at
     unfolding end_at
-    end_here r = let r' : row_end s at ≤ length s = rw (← is_end) r in is_end ∙ sym (rw (lt_ltb at (u32_at s 16) p, le_leb (row_end s at) (length s) r'))
+    end_here r = let r' : row_end s at ≤ length s = rw (← is_end) r in is_end ∙ sym (rw (lt-ltb at (u32_at s 16) p, le-leb (row_end s at) (length s) r'))
 
   -- where an entry stands
   pub record Entry : Type 0 where
@@ -49,14 +49,14 @@ entry s at h =
     let b = leb e (length s) in
     let c1 = chosen (ltb at (u32_at s 16)) (pick b e 0) h in
     let c2 = chosen b e (λ z. h (c1.1 ∙ z)) in
-    let r : e ≤ length s = leb_true _ _ c2.0 in
+    let r : e ≤ length s = leb-true _ _ c2.0 in
     let eq : end_at s at ≡ e = c1.1 ∙ c2.1 in
     record { past = omega arith; room = omega arith }
 
 module _ (s : List ℕ) (at e : ℕ) (eq : e ≡ end_at s at) where
   pub hand_none : e ≡ 0 → Nothing ≡ hand_at s at
   unfolding hand_at
-  hand_none h = rw (eq_eqb (end_at s at) 0 (omega arith))
+  hand_none h = rw (eq-eqb (end_at s at) 0 (omega arith))
 
   pub hand_one : (m : ℕ) → (e ≡ 0 → ⊥) → m ≡ u32_at s at → One (record { 0 = m }) ≡ hand_at s at
   unfolding hand_at
@@ -64,7 +64,7 @@ module _ (s : List ℕ) (at e : ℕ) (eq : e ≡ end_at s at) where
 
   pub part_none : e ≡ 0 → [] ≡ part_at s at
   unfolding part_at
-  part_none h = rw (eq_eqb (end_at s at) 0 (omega arith))
+  part_none h = rw (eq-eqb (end_at s at) 0 (omega arith))
 
   pub part_some : (e ≡ 0 → ⊥) → take (e - (at + 4)) (drop (at + 4) s) ≡ part_at s at
   unfolding part_at
@@ -72,7 +72,7 @@ module _ (s : List ℕ) (at e : ℕ) (eq : e ≡ end_at s at) where
 
   pub onward_none : e ≡ 0 → at ≡ onward_at s at
   unfolding onward_at
-  onward_none h = rw (eq_eqb (end_at s at) 0 (omega arith))
+  onward_none h = rw (eq-eqb (end_at s at) 0 (omega arith))
 
   pub onward_some : (e ≡ 0 → ⊥) → e ≡ onward_at s at
   unfolding onward_at

@@ -1,7 +1,7 @@
 -- What a walk hands out: of a well-formed image exactly its entries, ascending, each with the bytes of its clock; of any other bytes none.
 use Rattle.std.specs.Prelude.{◌≡◌, refl, List, [], ◌∷◌, map, Bool, true, false, ℕ, suc, zero, ◌+◌, ◌-◌, ◌≤◌, ◌<◌, ltb}
 use Rattle.std.proofs.Common.{ap, ◌∙◌, arith}
-use borrow.Author.Tests.{lt_leb, le_leb, lt_ltb, le_ltb, eq_eqb, ne_eqb}
+use borrow.Author.Tests.{lt-leb, le-leb, lt-ltb, le-ltb, eq-eqb, ne_eqb}
 use Rattle.std.proofs.Math.ListN.{length}
 use Rattle.tables.specs.Table.{pick}
 use Rattle.replica.specs.Replica.{Entry}
@@ -41,11 +41,11 @@ row_end_after s at = omega arith
 
 end_past : (s : List ℕ) (at : ℕ) → waits_start_at s ≤ at → end_at s at ≡ 0
 unfolding end_at
-end_past s at h = rw (le_ltb at (waits_start_at s) h)
+end_past s at h = rw (le-ltb at (waits_start_at s) h)
 
 end_outside : (s : List ℕ) (at : ℕ) → length s ≤ at → end_at s at ≡ 0
 unfolding end_at
-end_outside s at h = let k = row_end_after s at in rw (lt_leb (row_end s at) (length s) (omega arith)) (go (ltb at (waits_start_at s)))
+end_outside s at h = let k = row_end_after s at in rw (lt-leb (row_end s at) (length s) (omega arith)) (go (ltb at (waits_start_at s)))
   where
     go : (b : Bool) → ◌≡◌ {A = ℕ} (pick b 0 0) 0
     go true = refl
@@ -54,7 +54,7 @@ end_outside s at h = let k = row_end_after s at in rw (lt_leb (row_end s at) (le
 none_at : (s : List ℕ) (at n : ℕ) → end_at s at ≡ 0 → handed n s at ≡ []
 unfolding handed hand_at
 none_at s at zero e = refl
-none_at s at (suc n) e = rw (eq_eqb (end_at s at) 0 e)
+none_at s at (suc n) e = rw (eq-eqb (end_at s at) 0 e)
 
 -- "Begun on an image that isn't well-formed, it hands out none."
 pub bad_none : (s : List ℕ) → good_image s ≡ false → (n : ℕ) → handed n s (start_at s) ≡ []
@@ -69,7 +69,7 @@ ends_after s at (suc n) = let h = ends_after s (row_end s at) n in let k = row_e
 module _ (s : List ℕ) (at : ℕ) (b : Bytes s) (low : at < waits_start_at s) (room : row_end s at ≤ length s) where
   here : end_at s at ≡ row_end s at
   unfolding end_at
-  here = rw (lt_ltb at (waits_start_at s) low, le_leb (row_end s at) (length s) room)
+  here = rw (lt-ltb at (waits_start_at s) low, le-leb (row_end s at) (length s) room)
 
   some : end_at s at ≡ 0 → ⊥
   some z = let k = row_end_after s at in omega (arith, here)

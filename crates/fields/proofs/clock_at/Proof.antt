@@ -7,7 +7,7 @@ use Rattle.fields.specs.Read.{clock_read}
 use Rattle.layout.specs.Clock.{dots_at, dot_in}
 use Rattle.clocks.specs.VClock.{vclock}
 use lib.Seq.{sets}
-use lib.ListN.{length, length_set}
+use lib.ListN.{length, length-set}
 use native.Mathlib.Nat.{sub-zero}
 use native.Mathlib.Omega.{arith}
 use Prim.Native.Nat.{ℕ, ◌+◌, ◌*◌, ◌-◌, ◌≤◌}
@@ -30,7 +30,7 @@ loop-holds c = (search rules, search rules, search rules, refl, rw sub-zero)
 
 loop-again : tie.Need-loop-preserved invariant-loop decreases-loop
 unfolding dot_in
-loop-again c = (search rules, search rules, search rules, simp length_set (omega arith), load_step _ _ _ _ _ _ _ (omega arith) (cc) ∙ c.before.before.before.loop.invariant.4)
+loop-again c = (search rules, search rules, search rules, simp length-set (omega arith), load_step _ _ _ _ _ _ _ (omega arith) (cc) ∙ c.before.before.before.loop.invariant.4)
 
 returns-2 : tie.Need-returns-2 invariant-loop decreases-loop
 unfolding vclock clock_read

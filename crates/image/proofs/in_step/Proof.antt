@@ -2,7 +2,7 @@ use Rattle.image.proofs.Steps.{row_ahead, row_end_is, row_taken, row_out}
 use Rattle.image.specs.Fits.{fits}
 use Rattle.layout.specs.Clock.{dots_at}
 use native.Mathlib.Omega.{arith}
-use native.Mathlib.Nat.{add_zero, sub-zero}
+use native.Mathlib.Nat.{add-zero, sub-zero}
 use Prim.Native.Nat.{◌+◌, ◌*◌, ◌-◌, ◌≤◌}
 use mathlib.Core.Path.{◌≡◌, ◌∙◌}
 use borrow.Author.Rules.{rules}
@@ -16,7 +16,7 @@ abbrev decreases-loop : tie.decreases-loop
 decreases-loop s from k lines line j₀ j = k - j
 
 loop-holds : tie.Need-loop-init invariant-loop decreases-loop
-loop-holds c = (omega arith, simp (add_zero, sub-zero))
+loop-holds c = (omega arith, simp (add-zero, sub-zero))
 
 returns : tie.Need-returns invariant-loop decreases-loop
 returns c =

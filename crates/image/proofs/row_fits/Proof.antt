@@ -3,7 +3,7 @@ use Rattle.image.specs.Fits.{fits}
 use Rattle.layout.specs.Clock.{dots_at}
 use lib.ListN.{length}
 use native.Mathlib.Omega.{arith}
-use native.Mathlib.Nat.{add_zero, sub-zero}
+use native.Mathlib.Nat.{add-zero, sub-zero}
 use Prim.Native.Nat.{◌+◌, ◌*◌, ◌-◌, ◌≤◌}
 use mathlib.Core.Path.{◌≡◌, ◌∙◌}
 use borrow.Author.Rules.{rules}
@@ -20,7 +20,7 @@ returns : tie.Need-returns invariant-loop decreases-loop
 returns c = let a = c.before.before.before.before.args in let e : a.count ≡ a.k = omega arith in rw e c.in_step.ensures
 
 loop-holds : tie.Need-loop-init invariant-loop decreases-loop
-loop-holds c = (omega arith, search rules, simp (add_zero, sub-zero))
+loop-holds c = (omega arith, search rules, simp (add-zero, sub-zero))
 
 returns-2 : tie.Need-returns-2 invariant-loop decreases-loop
 returns-2 c =

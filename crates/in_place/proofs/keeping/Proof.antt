@@ -1,13 +1,13 @@
 -- `in_place::keeping` meets its contract.
 use mathlib.Core.Path.{refl}
-use borrow.Author.Tests.{eq_eqb, ne_eqb}
+use borrow.Author.Tests.{eq-eqb, ne_eqb}
 use Rattle.in_place.specs.Kept.{kept}
 use Rattle.in_place.proofs.keeping.Statement.{statement}
 use Rattle.in_place.proofs.keeping.Tie as tie
 
 returns : tie.Need-returns
 unfolding kept
-returns c = (refl, simp (eq_eqb _ _ c.if1.true))
+returns c = (refl, simp (eq-eqb _ _ c.if1.true))
 
 returns-2 : tie.Need-returns-2
 unfolding kept

@@ -2,7 +2,7 @@ use Rattle.kills.proofs.Steps.{each_turn, each_end, taken}
 use Rattle.clocks.proofs.Steps.{mapped}
 use Rattle.dots.specs.Dot.{actor_of, no_dot}
 use lib.Seq.{sets, slice}
-use lib.ListN.{length, take, length_map, length_take}
+use lib.ListN.{length, take, length-map, length-take}
 use native.Mathlib.Omega.{arith}
 use Prim.Native.Nat.{◌-◌, ◌≤◌}
 use mathlib.Core.List.{map}
@@ -33,7 +33,7 @@ returns c =
     let l = c.before.loop in
     let long : length a.t1.dots ≡ 16 = search mapped in
     let xs = map (λ d. actor_of d) (take a.n a.t1.dots) in
-    let n : length xs ≡ a.n = simp (length_map, length_take) (omega arith) in
+    let n : length xs ≡ a.n = simp (length-map, length-take) (omega arith) in
     let e = sym (each_end (λ d. actor_of d) no_dot a.t1.dots a.n l.actors l.i (omega arith)) ∙ l.invariant.1 in
     ap (take a.n) e ∙ taken _ xs a.n n (omega arith)
 

@@ -9,7 +9,7 @@ use Rattle.clocks.specs.VClock.{dots_of}
 use Rattle.dots.specs.Dot.{actor_of}
 use Rattle.dots.specs.Clock.{Clock}
 use lib.Seq.{sets, slice}
-use lib.ListN.{length, take, get_or, length_map, length_take}
+use lib.ListN.{length, take, get_or, length-map, length-take}
 use native.Mathlib.Omega.{arith}
 use Prim.Native.Nat.{ℕ, ◌-◌, ◌≤◌}
 use mathlib.Core.List.{List, map}
@@ -60,7 +60,7 @@ returns c =
     let e1 = take_most a.places a.n 64 m.result long m.ensures.0 in
     let e2 = take_most a.t5 a.k 16 n.result wlong n.ensures.0 in
     let ms = c.before.before.before.before.before.before.before.members_at.ensures ∙ ap (λ (ps : List ℕ). map (λ q. u32_at a.s.now q) ps) e1 in
-    let e3 : m.result ≡ length (map (λ q. u32_at a.s.now q) (take a.n a.places)) = simp (length_map, length_take) (omega arith) in
+    let e3 : m.result ≡ length (map (λ q. u32_at a.s.now q) (take a.n a.places)) = simp (length-map, length-take) (omega arith) in
     let f = c.before.before.actors-of.ensures ∙ ap (map (λ d. actor_of d)) (take_most a.v.dots a.v.len 16 _ vlong c.before.before.before.at-most3.ensures.0) in
     sym (wait_end_is (dots_of a.v) (take m.result c.before.before.before.before.before.before.before.members_at.result) a.t.now a.t5 l.out n.result l.i (omega arith)) ∙ l.invariant.3 (dots_of a.v) f
     ∙ (λ j. kill_lines (dots_of a.v) (ms j) (map (λ q. wait_read a.t.now q) (e2 j)) ((c.before.before.before.before.lay.ensures ∙ ap (λ (m : ℕ). sets a.out.now 0 (spread m a.t8)) e3) j))

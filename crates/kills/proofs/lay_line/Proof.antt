@@ -1,7 +1,7 @@
 use Rattle.kills.proofs.Steps.{lay_turn, lay_end}
 use lib.Seq.{sets}
 use lib.ListN.{drop}
-use native.Mathlib.Nat.{add_zero}
+use native.Mathlib.Nat.{add-zero}
 use native.Mathlib.Omega.{arith}
 use Prim.Native.Nat.{◌+◌, ◌*◌, ◌-◌, ◌≤◌}
 use mathlib.Core.Path.{◌≡◌, sym, ◌∙◌}
@@ -16,7 +16,7 @@ abbrev decreases-loop : tie.decreases-loop
 decreases-loop floor i out₀ j₀ out j = 16 - j
 
 loop-holds : tie.Need-loop-init invariant-loop decreases-loop
-loop-holds c = (search rules, rw add_zero)
+loop-holds c = (search rules, rw add-zero)
 
 loop-again : tie.Need-loop-preserved invariant-loop decreases-loop
 loop-again c =

@@ -2,7 +2,7 @@ use Rattle.kills.proofs.Steps.{each_turn, each_end, taken}
 use Rattle.kills.specs.Lines.{members_of}
 use Rattle.layout.specs.Fields.{u32_at}
 use lib.Seq.{sets, slice}
-use lib.ListN.{length, take, length_map, length_take}
+use lib.ListN.{length, take, length-map, length-take}
 use native.Mathlib.Omega.{arith}
 use Prim.Native.Nat.{◌-◌, ◌≤◌}
 use mathlib.Core.List.{map}
@@ -32,7 +32,7 @@ returns c =
     let a = c.before.before.before.args in
     let l = c.before.loop in
     let xs = map (λ q. u32_at a.s.now q) (take a.n a.t2) in
-    let n : length xs ≡ a.n = simp (length_map, length_take) (omega arith) in
+    let n : length xs ≡ a.n = simp (length-map, length-take) (omega arith) in
     let e = sym (each_end (u32_at a.s.now) 0 a.t2 a.n l.ms l.i (omega arith)) ∙ l.invariant.1 in
     ap (take a.n) e ∙ taken _ xs a.n n (omega arith)
 

@@ -1,6 +1,6 @@
 use Rattle.kills.proofs.Steps.{filled_start, filled_turn, filled_short}
 use Rattle.kills.specs.Posts.{Filled}
-use lib.ListN.{length, length_set}
+use lib.ListN.{length, length-set}
 use native.Mathlib.Omega.{arith}
 use Prim.Native.Nat.{◌-◌, ◌≤◌}
 use mathlib.Core.Path.{◌≡◌, refl}
@@ -21,7 +21,7 @@ returns : tie.Need-returns invariant-loop decreases-loop
 returns c = let l = c.before.before.loop in filled_short _ _ l.i _ (omega arith) l.invariant.2
 
 loop-again : tie.Need-loop-preserved invariant-loop decreases-loop
-loop-again c = let l = c.before.before.before.loop in (search rules, simp length_set (omega arith), filled_turn _ _ l.i _ (omega arith) l.invariant.2)
+loop-again c = let l = c.before.before.before.loop in (search rules, simp length-set (omega arith), filled_turn _ _ l.i _ (omega arith) l.invariant.2)
 
 returns-2 : tie.Need-returns-2 invariant-loop decreases-loop
 returns-2 c = let l = c.before.loop in record { same = λ j h. l.invariant.2.low j (omega arith) }

@@ -2,7 +2,7 @@ use Rattle.kills.proofs.Steps.{members_are, none_above}
 use Rattle.kills.specs.Laws.{length_along}
 use Rattle.kills.specs.Lines.{along, raised, wait_read}
 use Rattle.replica.specs.Replica.{member_rows}
-use lib.ListN.{length, take, length_take}
+use lib.ListN.{length, take, length-take}
 use native.Mathlib.Omega.{arith}
 use Prim.Native.Nat.{ℕ, ◌≤◌}
 use mathlib.Core.List.{List}
@@ -21,7 +21,7 @@ returns c =
 returns-2 : tie.Need-returns-2
 returns-2 c =
     let a = c.before.before.before.args in
-    let n : length (along member_rows (take a.n a.ms.now) (wait_read a.t.now a.at).members) ≤ a.n = rw (length_along member_rows (take a.n a.ms.now) (wait_read a.t.now a.at).members, length_take) (omega arith) in
+    let n : length (along member_rows (take a.n a.ms.now) (wait_read a.t.now a.at).members) ≤ a.n = rw (length_along member_rows (take a.n a.ms.now) (wait_read a.t.now a.at).members, length-take) (omega arith) in
     none_above a.out.now a.floor.now a.n _ a.line.now (omega arith) n c.before.before.before.requires.3 (c.before.above.ensures.under c.if1.false)
 
 pub raise-by-spec : {M : Type 1} → statement M

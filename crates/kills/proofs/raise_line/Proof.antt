@@ -1,7 +1,7 @@
 use Rattle.kills.proofs.Steps.{raise_turn, raise_end}
 use Rattle.kills.specs.Lines.{raise_from}
 use lib.ListN.{drop, set}
-use native.Mathlib.Nat.{add_zero}
+use native.Mathlib.Nat.{add-zero}
 use native.Mathlib.Omega.{arith}
 use Prim.Native.Nat.{ℕ, ◌+◌, ◌*◌, ◌-◌, ◌≤◌}
 use mathlib.Core.Path.{◌≡◌, sym, ap, ◌∙◌}
@@ -16,7 +16,7 @@ abbrev decreases-loop : tie.decreases-loop
 decreases-loop out₀ i line j₀ out j = 16 - j
 
 loop-holds : tie.Need-loop-init invariant-loop decreases-loop
-loop-holds c = (search rules, rw add_zero)
+loop-holds c = (search rules, rw add-zero)
 
 loop-again : tie.Need-loop-preserved invariant-loop decreases-loop
 loop-again c =

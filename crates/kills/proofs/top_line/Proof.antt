@@ -5,7 +5,7 @@ use Rattle.clocks.specs.VClock.{dots_of}
 use Rattle.dots.specs.Dot.{actor_of}
 use Rattle.dots.specs.Clock.{Clock}
 use lib.Seq.{slice}
-use lib.ListN.{length, take, replicate, length_take}
+use lib.ListN.{length, take, replicate, length-take}
 use native.Mathlib.Omega.{arith}
 use Prim.Native.Nat.{ℕ, ◌-◌, ◌≤◌}
 use mathlib.Core.List.{List, map}
@@ -31,7 +31,7 @@ loop-again c =
     let a = c.before.before.before.before.before.before.before.before.before.args in
     let l = c.before.before.before.before.loop in
     let n = c.before.before.before.before.before.before.before.at_most.result in
-    let few : length (take c.before.before.before.before.before.before.at-most2.result c.before.before.before.before.before.actors-of.result) ≤ 16 = simp length_take (omega arith) in
+    let few : length (take c.before.before.before.before.before.before.at-most2.result c.before.before.before.before.before.actors-of.result) ≤ 16 = simp length-take (omega arith) in
     (search rules, search rules, λ v e. top_turn v a.t.now a.t2 l.top n l.i _ _ (omega arith) (omega arith) few e c.raise-at.ensures ∙ l.invariant.2 v e)
 
 returns : tie.Need-returns invariant-loop decreases-loop

@@ -3,7 +3,7 @@ use mathlib.Core.Path.{◌≡◌, refl}
 use native.Mathlib.Omega.{arith}
 use lib.ListN.{length, take, get_or}
 use lib.Seq.{slice}
-use borrow.Author.Tests.{lt_ltb, le_ltb, lt_leb, le_leb}
+use borrow.Author.Tests.{lt-ltb, le-ltb, lt-leb, le-leb}
 use Rattle.dots.specs.Dot.{no_dot}
 use Rattle.dots.specs.Rising.{rising}
 use Rattle.places.proofs.Steps.{ahead, done, mapped}
@@ -36,7 +36,7 @@ returns c =
     let s = k.before.args.t1 in
     let long : length s ≡ 16 = search mapped in
     let d = get_or s k.loop.i no_dot in
-    simp (ahead s k.loop.i k.before.args.n no_dot (omega arith) (omega arith), lt_leb k.loop.low d.actor.0 (omega arith)) at k.loop.invariant.1
+    simp (ahead s k.loop.i k.before.args.n no_dot (omega arith) (omega arith), lt-leb k.loop.low d.actor.0 (omega arith)) at k.loop.invariant.1
 
 returns-2 : tie.Need-returns-2 invariant-loop decreases-loop
 unfolding rising
@@ -45,7 +45,7 @@ returns-2 c =
     let s = k.before.args.t1 in
     let long : length s ≡ 16 = search mapped in
     let d = get_or s k.loop.i no_dot in
-    simp (ahead s k.loop.i k.before.args.n no_dot (omega arith) (omega arith), le_leb k.loop.low d.actor.0 (omega arith), le_ltb 0 d.counter (omega arith)) at k.loop.invariant.1
+    simp (ahead s k.loop.i k.before.args.n no_dot (omega arith) (omega arith), le-leb k.loop.low d.actor.0 (omega arith), le-ltb 0 d.counter (omega arith)) at k.loop.invariant.1
 
 add_low : tie.Need-overflow-add-low invariant-loop decreases-loop
 add_low c = search rules
@@ -63,7 +63,7 @@ loop-again c =
     let s = k.before.args.t1 in
     let long : length s ≡ 16 = search mapped in
     let d = get_or s k.loop.i no_dot in
-    (search rules, rw c.before.before.before.wide.ensures.0 (simp (ahead s k.loop.i k.before.args.n no_dot (omega arith) (omega arith), le_leb k.loop.low d.actor.0 (omega arith), lt_ltb 0 d.counter (omega arith)) at k.loop.invariant.1))
+    (search rules, rw c.before.before.before.wide.ensures.0 (simp (ahead s k.loop.i k.before.args.n no_dot (omega arith) (omega arith), le-leb k.loop.low d.actor.0 (omega arith), lt-ltb 0 d.counter (omega arith)) at k.loop.invariant.1))
 
 returns-3 : tie.Need-returns-3 invariant-loop decreases-loop
 unfolding rising

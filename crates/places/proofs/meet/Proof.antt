@@ -1,5 +1,5 @@
 use mathlib.Core.Path.{◌∙◌}
-use native.Mathlib.Nat.{zero_add}
+use native.Mathlib.Nat.{zero-add}
 use Rattle.places.specs.Turn.{turn_of}
 use borrow.Author.Rules.{rules}
 use Rattle.places.proofs.meet.Statement.{statement}
@@ -9,7 +9,7 @@ returns : tie.Need-returns
 unfolding turn_of
 returns c =
     let k = c.before.before.before.before in
-    rw (c.before.before.ruled.ensures, k.held.ensures, c.before.before.before.held2.ensures, c.before.step.ensures ∙ zero_add _, c.step2.ensures ∙ zero_add _, k.before.lower.ensures)
+    rw (c.before.before.ruled.ensures, k.held.ensures, c.before.before.before.held2.ensures, c.before.step.ensures ∙ zero-add _, c.step2.ensures ∙ zero-add _, k.before.lower.ensures)
 
 pub meet-spec : {M : Type 1} → statement M
 meet-spec =

@@ -2,7 +2,7 @@ use Prim.Native.Nat.{◌+◌, ◌-◌}
 use mathlib.Core.Path.{◌≡◌, refl}
 use mathlib.Core.Logic.{⊎_elim}
 use native.Mathlib.Omega.{arith}
-use native.Mathlib.Nat.{zero_add}
+use native.Mathlib.Nat.{zero-add}
 use lib.ListN.{length, take}
 use Rattle.places.specs.Places.{joined}
 use Rattle.places.specs.Turn.{rule_of}
@@ -39,7 +39,7 @@ loop-holds c =
       few = omega arith;
       long = refl;
       store = rw (u, v);
-      count = rw (u, v) (zero_add _);
+      count = rw (u, v) (zero-add _);
     }
 
 add-i : tie.Need-overflow-add-i invariant-loop decreases-loop

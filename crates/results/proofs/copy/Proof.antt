@@ -1,8 +1,8 @@
 use Prim.Native.Nat.{◌+◌, ◌-◌, min}
 use mathlib.Core.Path.{◌≡◌, refl, ◌∙◌}
-use native.Mathlib.Nat.{add_zero}
+use native.Mathlib.Nat.{add-zero}
 use native.Mathlib.Omega.{arith}
-use lib.ListN.{length, length_set}
+use lib.ListN.{length, length-set}
 use lib.Seq.{sets, slice}
 use Rattle.results.proofs.Steps.{less_left, copy_on, copy_end}
 use borrow.Author.Rules.{rules}
@@ -17,7 +17,7 @@ abbrev decreases-loop : tie.decreases-loop
 decreases-loop s from end out₀ at given n i₀ out i = n - i
 
 loop-holds : tie.Need-loop-init invariant-loop decreases-loop
-loop-holds c = (rw (c.fewer2.ensures, c.before.apart2.ensures, c.before.before.apart.ensures, c.before.before.before.fewer.ensures), refl, simp add_zero)
+loop-holds c = (rw (c.fewer2.ensures, c.before.apart2.ensures, c.before.before.apart.ensures, c.before.before.before.fewer.ensures), refl, simp add-zero)
 
 add-out : tie.Need-overflow-add-out invariant-loop decreases-loop
 add-out c = let t = c.loop-test.true in let z = c.before.loop.invariant in omega arith
@@ -41,7 +41,7 @@ loop-again : tie.Need-loop-preserved invariant-loop decreases-loop
 loop-again c =
     let a = c.before.before.before.before.before.before.before.before.before.args in
     let t = c.before.loop-test.true in let z = c.before.before.loop.invariant in
-    (z.0, simp length_set z.1, copy_on a.s.now c.before.before.loop.out a.from a.end a.at c.before.before.loop.i (omega arith) (omega arith) ∙ z.2)
+    (z.0, simp length-set z.1, copy_on a.s.now c.before.before.loop.out a.from a.end a.at c.before.before.loop.i (omega arith) (omega arith) ∙ z.2)
 
 same_length : tie.Need-same-length invariant-loop decreases-loop
 same_length c = c.before.loop.invariant.1

@@ -1,7 +1,7 @@
 use mathlib.Core.Path.{◌≡◌, refl, ap, ◌∙◌}
 use native.Mathlib.Omega.{arith}
 use lib.ListN.{length}
-use lib.Seq.{length_sets}
+use lib.Seq.{length-sets}
 use Rattle.clocks.proofs.Steps.{mapped}
 use Rattle.results.proofs.Steps.{number_6, number_7, number_8, number_9, number_short, number_early, number_none, refuses, grants}
 use borrow.Author.Rules.{rules}
@@ -36,7 +36,7 @@ cast-put-contents : tie.Need-overflow-cast-put-contents
 cast-put-contents c = let a = c.before.before.before.before.before.before.before.before.before.before.before.if1.false in omega arith
 
 same_length : tie.Need-same-length
-same_length c = ap length c.before.before.copy.ensures ∙ simp length_sets (ap length c.before.before.before.before.before.before.put-clock.ensures.is ∙ simp length_sets (ap length c.before.before.before.before.before.before.before.before.before.before.put-contents.ensures ∙ simp length_sets))
+same_length c = ap length c.before.before.copy.ensures ∙ simp length-sets (ap length c.before.before.before.before.before.before.put-clock.ensures.is ∙ simp length-sets (ap length c.before.before.before.before.before.before.before.before.before.before.put-contents.ensures ∙ simp length-sets))
 
 returns-7 : tie.Need-returns-7
 returns-7 c =

@@ -4,7 +4,7 @@ use Rattle.scan.specs.Scan.{laid_rows}
 use Rattle.layout.specs.Rows.{row_end, rows_end_at, places_at}
 use Rattle.layout.specs.Fields.{u32_at}
 use lib.Seq.{sets}
-use lib.ListN.{length, length_set}
+use lib.ListN.{length, length-set}
 use native.Mathlib.Omega.{arith}
 use native.Mathlib.Nat.{sub-zero}
 use Prim.Native.Nat.{◌+◌, ◌-◌, ◌≤◌}
@@ -53,7 +53,7 @@ loop-again c =
     let r = row_some s l.p l.low next c.before.before.before.row_ends.ensures c.before.before.if4.false in (
       search rules,
       row_inside s l.p l.low next c.before.before.before.row_ends.ensures c.before.before.if4.false,
-      simp length_set (omega arith),
+      simp length-set (omega arith),
       rw e (rows_turn s l.p l.low k j (omega arith) next c.before.before.before.row_ends.ensures c.before.before.if4.false ∙ l.invariant.3),
       end_turn row_end s l.p k j next (omega arith) r.1 ∙ l.invariant.4,
       places_turn row_end s l.p k j next (omega arith) r.1 l.places l.i ∙ l.invariant.5,

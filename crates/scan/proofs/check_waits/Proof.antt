@@ -5,7 +5,7 @@ use Rattle.layout.specs.Good.{good_waits}
 use Rattle.layout.specs.Rows.{wait_end, waits_end_at, wait_places_at}
 use Rattle.layout.specs.Clock.{clock_at}
 use lib.Seq.{sets}
-use lib.ListN.{length, length_set}
+use lib.ListN.{length, length-set}
 use native.Mathlib.Omega.{arith}
 use native.Mathlib.Nat.{sub-zero}
 use Prim.Native.Nat.{◌+◌, ◌-◌, ◌≤◌}
@@ -59,7 +59,7 @@ loop-again c =
       wait_inside s l.p (clock_at s l.last) next c.before.wait-ends.ensures c.if4.false,
       search rules,
       wait_in s l.p (clock_at s l.last) next c.before.wait-ends.ensures c.if4.false,
-      simp length_set (omega arith),
+      simp length-set (omega arith),
       waits_turn s l.p (clock_at s l.last) k j (omega arith) next c.before.wait-ends.ensures c.if4.false ∙ l.invariant.5,
       end_turn wait_end s l.p k j next (omega arith) r.1 ∙ l.invariant.6,
       places_turn wait_end s l.p k j next (omega arith) r.1 l.places l.i ∙ l.invariant.7,

@@ -1,12 +1,12 @@
 use borrow.Author.Rules.{rules}
-use borrow.Author.Tests.{eq_eqb, ne_eqb}
+use borrow.Author.Tests.{eq-eqb, ne_eqb}
 use Rattle.validating.specs.Search.{key_of}
 use Rattle.validating.proofs.key.Statement.{statement}
 use Rattle.validating.proofs.key.Tie as tie
 
 returns : tie.Need-returns
 unfolding key_of
-returns c = rw (eq_eqb _ _ c.if1.true)
+returns c = rw (eq-eqb _ _ c.if1.true)
 
 returns-2 : tie.Need-returns-2
 unfolding key_of

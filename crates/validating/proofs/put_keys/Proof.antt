@@ -1,7 +1,7 @@
 use Prim.Native.Nat.{◌+◌, ◌*◌, ◌-◌, ◌≤◌}
 use mathlib.Core.Path.{◌≡◌, refl, sym, ◌∙◌}
 use native.Mathlib.Omega.{arith}
-use lib.ListN.{length, length_set}
+use lib.ListN.{length, length-set}
 use Rattle.validating.proofs.Steps.{at_keys, keys_turn, keys_end, keys_start}
 use borrow.Author.Rules.{rules}
 use Rattle.validating.proofs.put_keys.Statement.{statement}
@@ -23,7 +23,7 @@ loop-again c =
     let z = c.before.before.before.before.before.before.before.before.before.requires in
     let v = c.before.before.before.before.loop.invariant in
     let w = c.before.walk-past.ensures in
-    (search rules, omega (arith, v.1, w.1), simp length_set v.2, keys_turn _ _ _ _ _ _ _ _ _ _ _ _ _ _ (omega arith) z.2 c.before.before.u32-in.ensures w.0 c.key.ensures ∙ v.3)
+    (search rules, omega (arith, v.1, w.1), simp length-set v.2, keys_turn _ _ _ _ _ _ _ _ _ _ _ _ _ _ (omega arith) z.2 c.before.before.u32-in.ensures w.0 c.key.ensures ∙ v.3)
 
 returns : tie.Need-returns invariant-loop decreases-loop
 returns c =

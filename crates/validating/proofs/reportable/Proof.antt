@@ -1,11 +1,11 @@
-use borrow.Author.Tests.{eq_eqb, ne_eqb}
+use borrow.Author.Tests.{eq-eqb, ne_eqb}
 use Rattle.validating.specs.Search.{reportable}
 use Rattle.validating.proofs.reportable.Statement.{statement}
 use Rattle.validating.proofs.reportable.Tie as tie
 
 returns : tie.Need-returns
 unfolding reportable
-returns c = rw (eq_eqb _ _ c.if1.true)
+returns c = rw (eq-eqb _ _ c.if1.true)
 
 returns-2 : tie.Need-returns-2
 unfolding reportable

@@ -3,7 +3,7 @@ use Prim.Native.Nat.{◌-◌, ◌≤◌}
 use mathlib.Core.Path.{◌≡◌, sym}
 use native.Mathlib.Omega.{arith}
 use lib.ListN.{length}
-use lib.Seq.{length_take_le}
+use lib.Seq.{length-take-le}
 use borrow.Author.Rules.{rules}
 use Rattle.cases.proofs.limits.on_first.Statement.{statement}
 use Rattle.cases.proofs.limits.on_first.Tie as tie
@@ -15,7 +15,7 @@ abbrev decreases-loop : tie.decreases-loop
 decreases-loop h op clock many list₀ i₀ list i = 65 - i
 
 slice-aggregate-applied : tie.Need-slice-aggregate-applied invariant-loop decreases-loop
-slice-aggregate-applied c = sym (length_take_le _ _ (omega arith))
+slice-aggregate-applied c = sym (length-take-le _ _ (omega arith))
 
 pub on-first-spec : {M : Type 1} → statement M
 on-first-spec =

@@ -1,6 +1,6 @@
 -- `dots::Dot::compare` meets its contract: the actors' test picks the counters' answer or none.
 use borrow.Author.Rules.{rules}
-use borrow.Author.Tests.{eq_eqb, ne_eqb}
+use borrow.Author.Tests.{eq-eqb, ne_eqb}
 use mathlib.Core.Path.{sym}
 use Rattle.dots.specs.Calls.{at_least}
 use Rattle.dots.proofs.Dot.compare.Statement.{statement}
@@ -8,7 +8,7 @@ use Rattle.dots.proofs.Dot.compare.Tie as tie
 
 returns : tie.Need-returns
 unfolding at_least
-returns c = simp (eq_eqb _ _ c.before.if1.true, eq_eqb _ _ (sym c.before.if1.true)) c.by_number.ensures
+returns c = simp (eq-eqb _ _ c.before.if1.true, eq-eqb _ _ (sym c.before.if1.true)) c.by_number.ensures
 
 returns-2 : tie.Need-returns-2
 unfolding at_least

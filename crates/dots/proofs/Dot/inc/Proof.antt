@@ -1,13 +1,13 @@
 -- `dots::Dot::inc` meets its contract: the definition tests the counter as the code does.
 use borrow.Author.Rules.{rules}
-use borrow.Author.Tests.{eq_eqb, ne_eqb}
+use borrow.Author.Tests.{eq-eqb, ne_eqb}
 use Rattle.dots.specs.Calls.{inc_of}
 use Rattle.dots.proofs.Dot.inc.Statement.{statement}
 use Rattle.dots.proofs.Dot.inc.Tie as tie
 
 returns : tie.Need-returns
 unfolding inc_of
-returns c = simp (eq_eqb _ _ c.before.if1.true, c.new.ensures)
+returns c = simp (eq-eqb _ _ c.before.if1.true, c.new.ensures)
 
 returns-2 : tie.Need-returns-2
 unfolding inc_of

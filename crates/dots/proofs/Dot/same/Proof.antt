@@ -1,12 +1,12 @@
 -- `dots::Dot::same` meets its contract.
-use borrow.Author.Tests.{eq_eqb, ne_eqb}
+use borrow.Author.Tests.{eq-eqb, ne_eqb}
 use Rattle.dots.specs.Calls.{same_dot}
 use Rattle.dots.proofs.Dot.same.Statement.{statement}
 use Rattle.dots.proofs.Dot.same.Tie as tie
 
 returns : tie.Need-returns
 unfolding same_dot
-returns c = simp (eq_eqb _ _ c.before.before.if1.true)
+returns c = simp (eq-eqb _ _ c.before.before.if1.true)
 
 returns-2 : tie.Need-returns-2
 unfolding same_dot

@@ -2,7 +2,7 @@ use mathlib.Core.Path.{◌≡◌, refl}
 use mathlib.Core.List.{map}
 use Prim.Native.Nat.{◌-◌, ◌≤◌}
 use native.Mathlib.Omega.{arith}
-use lib.ListN.{length, take, length_set}
+use lib.ListN.{length, take, length-set}
 use Rattle.clocks.proofs.Steps.{mapped}
 use Rattle.merging.proofs.DraftSteps.{taken_on}
 use borrow.Author.Rules.{rules}
@@ -25,7 +25,7 @@ loop-again : tie.Need-loop-preserved invariant-loop decreases-loop
 loop-again c =
     let t = c.before.loop-test.true in let z = c.before.before.loop.invariant in let pre = c.before.before.before.requires in let a = c.before.before.before.args in
     let long : length a.t1.dots ≡ 16 = search mapped in
-    (omega arith, simp length_set z.1, taken_on (λ d. d.counter) a.t1.dots c.before.before.loop.counters c.before.before.loop.i z.2 (omega arith) (omega arith))
+    (omega arith, simp length-set z.1, taken_on (λ d. d.counter) a.t1.dots c.before.before.loop.counters c.before.before.loop.i z.2 (omega arith) (omega arith))
 
 returns : tie.Need-returns invariant-loop decreases-loop
 returns c = let t = c.loop-test.false in let z = c.before.loop.invariant in let e : c.before.loop.i ≡ c.before.before.args.t1.len = omega arith in rw (← e) z.2

@@ -1,7 +1,7 @@
 use mathlib.Core.Path.{◌≡◌, refl}
 use Prim.Native.Nat.{◌-◌, ◌≤◌}
 use native.Mathlib.Omega.{arith}
-use lib.ListN.{length, length_set}
+use lib.ListN.{length, length-set}
 use Rattle.layout.specs.Clock.{dots_at}
 use Rattle.merging.specs.Draft.{Counts}
 use Rattle.merging.proofs.DraftSteps.{counts_on, counts_none}
@@ -24,7 +24,7 @@ loop-less c = let t = c.before.before.loop-test.true in omega arith
 loop-again : tie.Need-loop-preserved invariant-loop decreases-loop
 loop-again c =
     let t = c.before.before.loop-test.true in let z = c.before.before.before.loop.invariant in let pre = c.before.before.before.before.before.requires in
-    (omega arith, simp length_set z.1, counts_on _ _ _ _ _ z.2 (omega arith) c.count_of.ensures)
+    (omega arith, simp length-set z.1, counts_on _ _ _ _ _ z.2 (omega arith) c.count_of.ensures)
 
 returns : tie.Need-returns invariant-loop decreases-loop
 returns c = let t = c.loop-test.false in let z = c.before.loop.invariant in record { is = λ i l. z.2.is i (omega arith) }

@@ -1,6 +1,6 @@
 use Prim.Native.Nat.{◌≤◌, ◌-◌}
 use native.Mathlib.Omega.{arith}
-use borrow.Author.Tests.{eqb_true}
+use borrow.Author.Tests.{eqb-true}
 use Rattle.merging.proofs.WholeSteps.{Clear, clear_on}
 use borrow.Author.Rules.{rules}
 use Rattle.merging.proofs.entries.clear.Statement.{statement}
@@ -19,7 +19,7 @@ loop-again : tie.Need-loop-preserved invariant-loop decreases-loop
 loop-again c = (omega arith, clear_on c.before.before.before.args.line.now c.before.before.before.args.from _ _ c.before.before.loop.invariant.1)
 
 returns : tie.Need-returns invariant-loop decreases-loop
-returns c = λ e i h. let t = c.loop-test.false in c.before.loop.invariant.1 (eqb_true c.before.loop.any 0 e) i (omega arith)
+returns c = λ e i h. let t = c.loop-test.false in c.before.loop.invariant.1 (eqb-true c.before.loop.any 0 e) i (omega arith)
 
 pub clear_spec : {M : Type 1} → statement M
 clear_spec =

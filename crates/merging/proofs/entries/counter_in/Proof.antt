@@ -1,10 +1,10 @@
 use native.Mathlib.Omega.{arith}
-use borrow.Author.Tests.{eq_eqb, ne_eqb}
+use borrow.Author.Tests.{eq-eqb, ne_eqb}
 use Rattle.merging.proofs.entries.counter_in.Statement.{statement}
 use Rattle.merging.proofs.entries.counter_in.Tie as tie
 
 returns : tie.Need-returns
-returns c = rw (eq_eqb _ _ c.if1.true)
+returns c = rw (eq-eqb _ _ c.if1.true)
 
 add-u64-in : tie.Need-overflow-add-u64-in
 add-u64-in c = let n = c.if1.false in let h = c.before.before.requires (omega arith) in omega arith

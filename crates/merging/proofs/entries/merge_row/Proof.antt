@@ -1,7 +1,7 @@
 use mathlib.Core.Path.{ap, ◌∙◌}
 use native.Mathlib.Omega.{arith}
 use lib.ListN.{length}
-use lib.Seq.{length_sets}
+use lib.Seq.{length-sets}
 use Rattle.merging.proofs.RowSteps.{end_ge, row_side, RowNumbers, row_numbers, row_goes, merged_row, head_short, some_one}
 use borrow.Author.Rules.{rules}
 use Rattle.merging.proofs.entries.merge_row.Statement.{statement}
@@ -80,7 +80,7 @@ add-t34 : tie.Need-overflow-add-t34
 add-t34 c = let h = c.before.before.before.before.before.before.before.before.before.before.before.before.before.before.before.before.before.before.before.before.before.before.before.before.before.before.before.before.requires in let o = some_one c.before.before.before.before.before.before.before.before.before.before.before.before.before.kept.result c.before.some.result c.before.some.ensures in omega arith
 
 same_length : tie.Need-same-length
-same_length c = ap length c.before.before.before.before.before.before.before.before.before.put-head.ensures.1 ∙ simp length_sets (ap length c.before.before.before.before.before.before.before.before.before.before.before.before.before.kept.ensures.1.bytes ∙ simp length_sets)
+same_length c = ap length c.before.before.before.before.before.before.before.before.before.put-head.ensures.1 ∙ simp length-sets (ap length c.before.before.before.before.before.before.before.before.before.before.before.before.before.kept.ensures.1.bytes ∙ simp length-sets)
 
 returns : tie.Need-returns
 returns c =

@@ -1,4 +1,4 @@
-use borrow.Author.Tests.{eq_eqb, ne_eqb}
+use borrow.Author.Tests.{eq-eqb, ne_eqb}
 use Rattle.tables.specs.Stores.{sets_append}
 use Rattle.layout.specs.Fields.{length_le32}
 use borrow.Author.Rules.{rules}
@@ -6,7 +6,7 @@ use Rattle.merging.proofs.entries.put_head.Statement.{statement}
 use Rattle.merging.proofs.entries.put_head.Tie as tie
 
 returns : tie.Need-returns
-returns c = (rw (eq_eqb _ _ c.if1.true), rw (eq_eqb _ _ c.if1.true))
+returns c = (rw (eq-eqb _ _ c.if1.true), rw (eq-eqb _ _ c.if1.true))
 
 returns-2 : tie.Need-returns-2
 returns-2 c = (rw (ne_eqb _ _ c.before.before.before.before.before.before.before.before.if1.false), rw (ne_eqb _ _ c.before.before.before.before.before.before.before.before.if1.false) (simp (sets_append, length_le32) (cc)))

@@ -2,7 +2,7 @@ use Prim.Native.Nat.{◌+◌, ◌*◌, ◌-◌}
 use mathlib.Core.Path.{◌≡◌, refl, ◌∙◌}
 use mathlib.Core.List.{[], ◌∷◌}
 use native.Mathlib.Omega.{arith}
-use lib.ListN.{length, length_set}
+use lib.ListN.{length, length-set}
 use Rattle.clocks.proofs.Steps.{mapped}
 use Rattle.merging.proofs.SideSteps.{one_brought, Rowing, rows_begin, rows_again, rows_end}
 use borrow.Author.Rules.{rules}
@@ -29,7 +29,7 @@ loop-again c =
     let pre = c.before.before.before.before.before.before.before.before.before.requires in
     let wide : length a.t2.at ≡ 64 = search rules in
     let room = l.invariant.1 in
-    (rows_again l.invariant.0 (omega arith) (omega arith) (omega arith) refl (28 + 20 * l.i) _ refl c.before.before.put_one.ensures, length_set l.places l.i (28 + 20 * l.i) ∙ room)
+    (rows_again l.invariant.0 (omega arith) (omega arith) (omega arith) refl (28 + 20 * l.i) _ refl c.before.before.put_one.ensures, length-set l.places l.i (28 + 20 * l.i) ∙ room)
 
 same_length : tie.Need-same-length invariant-loop decreases-loop
 same_length c = c.before.loop.invariant.0.size

@@ -1,6 +1,6 @@
 use mathlib.Core.Path.{ap, ◌∙◌}
 use lib.ListN.{length}
-use lib.Seq.{length_sets}
+use lib.Seq.{length-sets}
 use Rattle.merging.proofs.SiftLoop.{passed_sifted}
 use borrow.Author.Rules.{rules}
 use Rattle.merging.proofs.sifting.copy_run.Statement.{statement}
@@ -10,7 +10,7 @@ run-requires : tie.Need-run-requires
 run-requires c κs = c.before.before.before.requires
 
 same_length : tie.Need-same-length
-same_length c = ap length c.before.before.copy.ensures ∙ simp length_sets
+same_length c = ap length c.before.before.copy.ensures ∙ simp length-sets
 
 returns : tie.Need-returns
 returns c = passed_sifted _ _ c.before.before.before.before.run.ensures c.before.before.copy.ensures

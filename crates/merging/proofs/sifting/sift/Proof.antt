@@ -2,7 +2,7 @@ use mathlib.Core.Path.{◌≡◌, ap, ◌∙◌}
 use Prim.Native.Nat.{◌+◌, ◌*◌, ◌-◌, ◌≤◌}
 use native.Mathlib.Omega.{arith}
 use lib.ListN.{length}
-use lib.Seq.{length_sets}
+use lib.Seq.{length-sets}
 use Rattle.layout.specs.Fields.{Bytes}
 use Rattle.layout.specs.Clock.{dots_at}
 use Rattle.merging.specs.Sifting.{sifted}
@@ -66,7 +66,7 @@ add-result : tie.Need-overflow-add-result invariant-loop decreases-loop
 add-result c = let z = c.before.before.before.before.before.before.before.before.before.loop.invariant.0.keeping in let p = c.before.before.before.before.before.before.before.before.before.before.before.before.before.before.before.requires in let f = p.2.few in omega arith
 
 same_length : tie.Need-same-length invariant-loop decreases-loop
-same_length c = ap length c.before.before.before.copy.ensures ∙ simp length_sets c.before.before.before.before.before.before.before.before.before.loop.invariant.0.keeping.size
+same_length c = ap length c.before.before.before.copy.ensures ∙ simp length-sets c.before.before.before.before.before.before.before.before.before.loop.invariant.0.keeping.size
 
 returns : tie.Need-returns invariant-loop decreases-loop
 returns c =

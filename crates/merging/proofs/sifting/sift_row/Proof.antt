@@ -1,7 +1,7 @@
 use mathlib.Core.Path.{ap, ◌∙◌}
 use native.Mathlib.Omega.{arith}
 use lib.ListN.{length, take}
-use lib.Seq.{length_sets}
+use lib.Seq.{length-sets}
 use Rattle.merging.proofs.RowSteps.{row_put, head_short, some_one}
 use Rattle.merging.proofs.SiftSteps.{FirstRow, first_row, head_inside, row_sifted}
 use borrow.Author.Rules.{rules}
@@ -57,7 +57,7 @@ add-t25 : tie.Need-overflow-add-t25
 add-t25 c = let p = c.before.before.before.before.before.before.before.before.before.before.before.before.before.before.before.before.before.before.before.before.before.before.before.requires.1 in let f = p.few in let a = p.kept in let o = some_one c.before.before.before.before.before.before.before.before.before.before.before.before.sift.result c.before.some.result c.before.some.ensures in omega arith
 
 same_length : tie.Need-same-length
-same_length c = ap length c.before.before.before.before.before.before.before.before.put-head.ensures.1 ∙ simp length_sets (ap length c.before.before.before.before.before.before.before.before.before.before.before.before.sift.ensures.1.bytes ∙ simp length_sets)
+same_length c = ap length c.before.before.before.before.before.before.before.before.put-head.ensures.1 ∙ simp length-sets (ap length c.before.before.before.before.before.before.before.before.before.before.before.before.sift.ensures.1.bytes ∙ simp length-sets)
 
 returns : tie.Need-returns
 returns c =

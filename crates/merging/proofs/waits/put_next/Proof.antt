@@ -1,5 +1,5 @@
 use native.Mathlib.Omega.{arith}
-use borrow.Author.Tests.{eq_eqb, ne_eqb}
+use borrow.Author.Tests.{eq-eqb, ne_eqb}
 use Rattle.merging.proofs.WaitSteps.{put_size, put_same, names_inside, only_left_named, only_right_named, same_named}
 use Rattle.merging.proofs.waits.put_next.Statement.{statement}
 use Rattle.merging.proofs.waits.put_next.Tie as tie
@@ -13,7 +13,7 @@ same_length c = put_size c.before.before.copy-wait.ensures
 returns : tie.Need-returns
 returns c =
     let h = c.before.before.before.before.before.before.before.before.requires.0 in let t = c.before.before.before.before.if1.true in
-    rw (eq_eqb _ _ t) (put_same (only_right_named _ _ _ _ (h.left_none t) (h.right (λ z. omega arith)).normal) (omega arith) c.before.before.copy-wait.ensures)
+    rw (eq-eqb _ _ t) (put_same (only_right_named _ _ _ _ (h.left_none t) (h.right (λ z. omega arith)).normal) (omega arith) c.before.before.copy-wait.ensures)
 
 copy-wait-requires-2 : tie.Need-copy-wait-requires-2
 copy-wait-requires-2 c κs = let h = c.before.before.before.before.before.before.requires in (h.0.left c.before.before.if1.false, h.0.left_small, h.1)

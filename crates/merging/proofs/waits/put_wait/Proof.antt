@@ -1,7 +1,7 @@
 use mathlib.Core.Path.{refl, sym, ap, ◌∙◌}
 use native.Mathlib.Omega.{arith}
 use lib.ListN.{length}
-use lib.Seq.{length_sets}
+use lib.Seq.{length-sets}
 use Rattle.layout.specs.Fields.{Bytes}
 use Rattle.merging.proofs.WaitSteps.{clock_inside, cover_clock, put_none, put_united}
 use borrow.Author.Rules.{rules}
@@ -36,7 +36,7 @@ add-t26 : tie.Need-overflow-add-t26
 add-t26 c = let x = c.before.before.before.before.before.before.before.before.before.before.before.before.before.before.index.ensures.1 in let h = c.before.before.before.before.before.before.before.before.before.before.before.before.before.before.before.before.before.before.before.requires.4 in let g = c.before.before.before.before.before.before.before.before.before.before.before.before.before.before.before.before.before.before.before.requires.0.named in let f = c.before.before.before.before.before.before.unite.ensures.few in omega arith
 
 same_length : tie.Need-same-length
-same_length c = ap length c.before.before.put-u32.ensures ∙ simp length_sets (ap length c.before.before.before.before.before.before.unite.ensures.bytes ∙ simp length_sets (ap length c.before.before.before.before.before.before.before.before.before.before.copy.ensures ∙ simp length_sets))
+same_length c = ap length c.before.before.put-u32.ensures ∙ simp length-sets (ap length c.before.before.before.before.before.before.unite.ensures.bytes ∙ simp length-sets (ap length c.before.before.before.before.before.before.before.before.before.before.copy.ensures ∙ simp length-sets))
 
 returns-2 : tie.Need-returns-2
 returns-2 c =

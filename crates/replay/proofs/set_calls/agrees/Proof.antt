@@ -1,9 +1,9 @@
-use Rattle.std.proofs.Common.{sym, arith, length_take_le, rules}
+use Rattle.std.proofs.Common.{sym, arith, length-take-le, rules}
 use Rattle.replay.proofs.set_calls.agrees.Statement.{statement}
 use Rattle.replay.proofs.set_calls.agrees.Tie as tie
 
 slice-aggregate-made-4 : tie.Need-slice-aggregate-made-4
-slice-aggregate-made-4 c = sym (length_take_le _ _ (omega arith))
+slice-aggregate-made-4 c = sym (length-take-le _ _ (omega arith))
 
 pub agrees-spec : {M : Type 1} → statement M
 agrees-spec =

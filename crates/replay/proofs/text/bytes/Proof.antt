@@ -1,4 +1,4 @@
-use Rattle.std.proofs.Common.{◌≡◌, ◌-◌, ◌/◌, ◌≤◌, length, sym, refl, arith, length_set, length_take_le, rules}
+use Rattle.std.proofs.Common.{◌≡◌, ◌-◌, ◌/◌, ◌≤◌, length, sym, refl, arith, length-set, length-take-le, rules}
 use Rattle.replay.proofs.text.bytes.Statement.{statement}
 use Rattle.replay.proofs.text.bytes.Tie as tie
 
@@ -36,13 +36,13 @@ loop-less : tie.Need-loop-smaller invariant-loop decreases-loop
 loop-less c = omega arith
 
 loop-again : tie.Need-loop-preserved invariant-loop decreases-loop
-loop-again c = (omega arith, simp length_set (omega arith), omega arith, simp length_set c.before.before.before.before.loop.invariant.3)
+loop-again c = (omega arith, simp length-set (omega arith), omega arith, simp length-set c.before.before.before.before.loop.invariant.3)
 
 same_length : tie.Need-same-length invariant-loop decreases-loop
 same_length c = omega arith
 
 returns : tie.Need-returns invariant-loop decreases-loop
-returns c = (omega arith, sym (length_take_le _ _ (omega arith)))
+returns c = (omega arith, sym (length-take-le _ _ (omega arith)))
 
 pub bytes-spec : {M : Type 1} → statement M
 bytes-spec =

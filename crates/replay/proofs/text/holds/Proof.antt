@@ -1,9 +1,9 @@
-use Rattle.std.proofs.Common.{sym, arith, length_take_le, rules}
+use Rattle.std.proofs.Common.{sym, arith, length-take-le, rules}
 use Rattle.replay.proofs.text.holds.Statement.{statement}
 use Rattle.replay.proofs.text.holds.Tie as tie
 
 slice-aggregate-same : tie.Need-slice-aggregate-same
-slice-aggregate-same c = sym (length_take_le _ _ (omega arith))
+slice-aggregate-same c = sym (length-take-le _ _ (omega arith))
 
 pub holds-spec : {M : Type 1} → statement M
 holds-spec =

@@ -1,4 +1,4 @@
-use Rattle.std.proofs.Common.{◌≤◌, length, sym, refl, arith, length_take_le, rules}
+use Rattle.std.proofs.Common.{◌≤◌, length, sym, refl, arith, length-take-le, rules}
 use Rattle.replay.proofs.text.whole.Statement.{statement}
 use Rattle.replay.proofs.text.whole.Tie as tie
 
@@ -12,7 +12,7 @@ loop-holds : tie.Need-loop-init invariant-loop decreases-loop
 loop-holds c = omega arith
 
 returns : tie.Need-returns invariant-loop decreases-loop
-returns c = (omega arith, sym (length_take_le _ _ (omega arith)))
+returns c = (omega arith, sym (length-take-le _ _ (omega arith)))
 
 loop-again : tie.Need-loop-preserved invariant-loop decreases-loop
 loop-again c = omega arith
