@@ -5,7 +5,7 @@ use clocks::VClock;
 use dots::{Actor, Dot};
 use orswot::{Op, apply, merge, reset_remove};
 
-#[derive(Drop)]
+#[derive(Clone, Copy)]
 pub struct Held {
     pub no: u32,
     pub len: usize,

@@ -1,1 +1,2 @@
 // Add, remove and reset over replica images.
+#![tactic(auto)]

@@ -1,1 +1,2 @@
 // What the check of an image tells its callers. See proofs/Known.antt.
+#![tactic(auto)]

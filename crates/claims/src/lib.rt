@@ -1,1 +1,2 @@
 // The claims of the library: theorems over the promises of its calls.
+#![tactic(auto)]

@@ -1,5 +1,7 @@
 // Vector clocks: at most 16 dots by ascending actor (src/vclock.rs of the crate). Each call judges every clock that it is given, `self`
 // included, and refuses with 3 where one isn't normalised.
+#![tactic(auto)]
+
 ghost use Rattle.std.specs.Prelude.{◌≡◌, true, [], ◌∷◌};
 ghost use Rattle.tables.specs.Table.{every};
 ghost use Rattle.dots.specs.Calls.{means, standing};
@@ -10,39 +12,39 @@ ghost use Rattle.clocks.specs.Calls.{zipped, clock_answer, get_call, dot_call, e
 use dots::{Actor, Comparison, Dot, DotAnswer, DotRange};
 use places::Rule;
 
-#[derive(Drop)]
+#[derive(Clone, Copy)]
 pub struct VClock {
     pub dots: [Dot; 16],
     pub len: usize,
 }
 
 // A refusal number, and where it is 0 a counter, a clock, a truth, an order.
-#[derive(Drop)]
+#[derive(Clone, Copy)]
 pub struct CounterAnswer {
     pub no: u32,
     pub counter: u64,
 }
 
-#[derive(Drop)]
+#[derive(Clone, Copy)]
 pub struct ClockAnswer {
     pub no: u32,
     pub clock: VClock,
 }
 
-#[derive(Drop)]
+#[derive(Clone, Copy)]
 pub struct TruthAnswer {
     pub no: u32,
     pub holds: bool,
 }
 
-#[derive(Drop)]
+#[derive(Clone, Copy)]
 pub struct ComparisonAnswer {
     pub no: u32,
     pub order: Comparison,
 }
 
 // What `validate_op` says of a dot: it may be applied; the clock is refused with 3; dots before it are missing (11).
-#[derive(Drop)]
+#[derive(Clone, Copy)]
 pub enum OpValidation {
     Valid,
     Refused,
@@ -50,7 +52,7 @@ pub enum OpValidation {
 }
 
 // The dot at a place of a clock: one, none there, or the clock is refused with 3.
-#[derive(Drop)]
+#[derive(Clone, Copy)]
 pub enum Nth {
     At(Dot),
     Past,

@@ -1,5 +1,6 @@
 // Runs the calls on dots, clocks, text, contexts and a clock held in place on good, bad and boundary values, and prints for each its refusal number and what it carries.
 // The file `stdout` beside this folder is written by hand from document 01, never by this program.
+#![tactic(auto)]
 mod clock_calls;
 mod dot_calls;
 mod edge_calls;

@@ -1,4 +1,5 @@
 // Contexts (src/ctx.rs of the crate): what a read hands out, and what an add or a remove is made from. Each call judges both clocks of a read context, used or not.
+#![tactic(auto)]
 ghost use Rattle.std.specs.Prelude.{◌≡◌};
 ghost use Rattle.contexts.specs.Contexts.{fit, refused_add, add_ctx_call, rm_ctx_call, split_call};
 
@@ -6,40 +7,40 @@ use clocks::VClock;
 use dots::{Actor, Dot};
 
 // Where a read stands: the clock that an add goes by, the clock that a remove goes by, and whether the member asked for is there.
-#[derive(Drop)]
+#[derive(Clone, Copy)]
 pub struct ReadCtx {
     pub add_clock: VClock,
     pub rm_clock: VClock,
     pub answer: bool,
 }
 
-#[derive(Drop)]
+#[derive(Clone, Copy)]
 pub struct AddCtx {
     pub clock: VClock,
     pub dot: Dot,
 }
 
-#[derive(Drop)]
+#[derive(Clone, Copy)]
 pub struct RmCtx {
     pub clock: VClock,
 }
 
 // A refusal number, and where it is 0 the context that an add goes by.
-#[derive(Drop)]
+#[derive(Clone, Copy)]
 pub struct AddCtxAnswer {
     pub no: u32,
     pub ctx: AddCtx,
 }
 
 // A refusal number, and where it is 0 the context that a remove goes by.
-#[derive(Drop)]
+#[derive(Clone, Copy)]
 pub struct RmCtxAnswer {
     pub no: u32,
     pub ctx: RmCtx,
 }
 
 // A refusal number, and where it is 0 the answer and the context without it.
-#[derive(Drop)]
+#[derive(Clone, Copy)]
 pub struct SplitAnswer {
     pub no: u32,
     pub answer: bool,

@@ -1,4 +1,5 @@
 // The clock's Display: its dots as text, written into a lent output.
+#![tactic(auto)]
 ghost use Rattle.std.specs.Prelude.{◌≡◌, ◌++◌, ◌≤◌, length};
 ghost use Rattle.clocks.specs.VClock.{dots_of};
 ghost use Rattle.display.specs.Text.{width, digits, decimal, dot_text, item, items, text, shown, shown_in};
@@ -8,7 +9,7 @@ use clocks::VClock;
 use dots::Dot;
 
 // A refusal number, and how many bytes were written where it is 0.
-#[derive(Drop)]
+#[derive(Clone, Copy)]
 pub struct Shown {
     pub no: u32,
     pub len: usize,

@@ -1,7 +1,7 @@
 -- `covers` as a loop goes: along the first clock's actors, with a place in the second.
 use Prim.Native.Nat.{ℕ, ◌≤◌, ◌<◌, compare, Ordering}
 use Rattle.std.specs.Prelude.{◌≡◌, refl, Bool, true, false, ◌&&◌, [], ◌∷◌, map, T, leb, eqb}
-use Rattle.std.proofs.Common.{sym, ◌∙◌, arith, leb→le, le→leb, ltb→lt, eqb-true}
+use Rattle.std.proofs.Common.{sym, subst, ◌∙◌, arith, leb→le, le→leb, ltb→lt, eqb-true}
 use Rattle.std.proofs.lemmas.Bool.{eqb-false}
 use Rattle.tables.specs.Order.{nat_order, lt_nat}
 use Rattle.tables.specs.Truth.{and_l, and_r, and_i, bool_ext}
@@ -24,7 +24,7 @@ pub count_same : (d : Dot) (c : Clock) → count (d ∷ c) (actor_of d) ≡ d.co
 count_same d c = get_first clocks d c
 
 pub count_here : (d : Dot) (c : Clock) (a : ℕ) → actor_of d ≡ a → count (d ∷ c) a ≡ d.counter
-count_here d c a e = rw (← e) (count_same d c)
+count_here d c a e = subst (λ (k : ℕ). count (d ∷ c) k ≡ d.counter) e (count_same d c)
 
 pub count_other : (d : Dot) (c : Clock) (a : ℕ) → (a ≡ actor_of d → ⊥) → count (d ∷ c) a ≡ count c a
 count_other d c a n = go (compare a (actor_of d)) refl
@@ -62,7 +62,7 @@ cover_le (d ∷ v) (x ∷ c) h t a =
     go true e p f =
         let s : actor_of x ≡ actor_of d = eqb-true (actor_of x) (actor_of d) e in
         by_eq a (actor_of d)
-        (λ q. let u : count (x ∷ c) a ≡ x.counter = rw (q, ← s) (count_same x c) in let w : count (d ∷ v) a ≡ d.counter = rw q (count_same d v) in omega arith)
+        (λ q. let u = count_here x c a (s ∙ sym q) in let w = count_here d v a (sym q) in omega arith)
         (λ n. let u = count_other x c a (λ z. n (z ∙ s)) in let w = count_other d v a n in let g = f a in omega arith)
     go false e p f =
         by_eq a (actor_of d)
@@ -86,7 +86,7 @@ le_cover (d ∷ v) (x ∷ c) h n f = go (eqb (actor_of x) (actor_of d)) refl (λ
     go true e rec =
         let s : actor_of x ≡ actor_of d = eqb-true (actor_of x) (actor_of d) e in
         let u = count_same x c in
-        let w : count (d ∷ v) (actor_of x) ≡ d.counter = rw s (count_same d v) in
+        let w = count_here d v (actor_of x) (sym s) in
         let g = f (actor_of x) in
         and_i (leb x.counter d.counter) (cover_of v c) (le→leb x.counter d.counter (omega arith))
         (rec c (record { asc = n.asc.1; proper = n.proper.1 })
@@ -99,7 +99,7 @@ le_cover (d ∷ v) (x ∷ c) h n f = go (eqb (actor_of x) (actor_of d)) refl (λ
         (rec (x ∷ c) n
         (λ a. by_eq a (actor_of d)
         (λ q. by_lt (actor_of d) (actor_of x)
-        (λ l. let z : count (x ∷ c) a ≡ 0 = rw q (before (actor_of d) x c l n.asc) in omega arith)
+        (λ l. let z : count (x ∷ c) a ≡ 0 = subst (λ (k : ℕ). count (x ∷ c) k ≡ 0) (sym q) (before (actor_of d) x c l n.asc) in omega arith)
         (λ l. let y = before (actor_of x) d v (omega arith) h in let u = count_same x c in let g = f (actor_of x) in let p = positive in absurd (omega arith)))
         (λ k. let y = count_other d v a k in let g = f a in omega arith)))
 

@@ -1,29 +1,31 @@
 // Dots: one actor's events by number (src/dot.rs of the crate). A clock as a list of dots stands in specs/.
+#![tactic(auto)]
+
 ghost use Rattle.std.specs.Prelude.{◌≡◌, leb};
 ghost use Rattle.dots.specs.Dot.{dot};
 ghost use Rattle.dots.specs.Calls.{inc_of, means, standing, at_least, ord_at_least, same_dot, dot_of, ord_of};
 
-#[derive(Drop)]
+#[derive(Clone, Copy)]
 pub struct Actor(pub u32);
 
-#[derive(Drop)]
+#[derive(Clone, Copy)]
 pub struct Member(pub u32);
 
-#[derive(Drop)]
+#[derive(Clone, Copy)]
 pub struct Dot {
     pub actor: Actor,
     pub counter: u64,
 }
 
 // A dot under the order by actor, then counter.
-#[derive(Drop)]
+#[derive(Clone, Copy)]
 pub struct OrdDot {
     pub actor: Actor,
     pub counter: u64,
 }
 
 // The dots of one actor from `start` on, `end` excluded.
-#[derive(Drop)]
+#[derive(Clone, Copy)]
 pub struct DotRange {
     pub actor: Actor,
     pub start: u64,
@@ -31,7 +33,7 @@ pub struct DotRange {
 }
 
 // How the first of two stands to the second; `None`: neither is at least the other.
-#[derive(Drop)]
+#[derive(Clone, Copy)]
 pub enum Comparison {
     Less,
     Equal,
@@ -40,7 +42,7 @@ pub enum Comparison {
 }
 
 // A refusal number, and the dot where it is 0.
-#[derive(Drop)]
+#[derive(Clone, Copy)]
 pub struct DotAnswer {
     pub no: u32,
     pub dot: Dot,

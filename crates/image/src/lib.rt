@@ -1,4 +1,5 @@
 // Replica images: the check of any bytes, and what the calls go by.
+#![tactic(auto)]
 ghost use Rattle.std.specs.Prelude.{◌≡◌, true, ◌+◌, ◌*◌, ◌<◌, ◌≤◌, length, take};
 ghost use Rattle.tables.specs.Table.{pick};
 ghost use Rattle.layout.specs.Clock.{dot_at, dots_at, clock_at};
@@ -11,7 +12,7 @@ use clocks::VClock;
 use fields::{clock_at, index, u16_at, u32_at, u64_at};
 
 // What an image holds: its clock, how many entries and waiting removes, and where each stands. All zero where it isn't well-formed.
-#[derive(Drop)]
+#[derive(Clone, Copy)]
 pub struct Image {
     pub good: bool,
     pub clock: VClock,
@@ -22,7 +23,7 @@ pub struct Image {
 }
 
 // A replica's clock, or a refusal.
-#[derive(Drop)]
+#[derive(Clone, Copy)]
 pub struct ClockAnswer {
     pub no: u32,
     pub clock: VClock,

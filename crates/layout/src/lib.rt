@@ -1,1 +1,2 @@
 // Theory only: a replica's bytes, written and read, in specs/.
+#![tactic(auto)]

@@ -1,6 +1,7 @@
 // The merge program: reads the images that its first two arguments name, merges them, writes the merged one to the third, and prints `done` with its
 // length, or `refused` with the number. Both inputs are read before the third is opened, so it may be one of them; it is opened only once the merge is
 // granted.
+#![tactic(auto)]
 ghost use Rattle.io.specs.Counts.{IsPrefixLen};
 
 use libc::STDOUT_FILENO;

@@ -14,7 +14,7 @@ use crate::ahead::{key_at, lower, meets};
 use fields::index;
 
 // Where a walk along two clocks in bytes stands: the next dot of each, how many are left, and how many dots were kept.
-#[derive(Drop)]
+#[derive(Clone, Copy)]
 pub(crate) struct Places {
     pub(crate) x: usize,
     pub(crate) xs: usize,
@@ -278,7 +278,7 @@ fn kept(
 
 // Where the walk along the entries of two images stands: the next row of each, how many are left, how many went before; the place in the output,
 // and how many rows were kept.
-#[derive(Drop)]
+#[derive(Clone, Copy)]
 pub(crate) struct Rows {
     pub(crate) p: usize,
     pub(crate) m: usize,

@@ -105,7 +105,7 @@ fn covered(s: &[u8], p: usize, n: usize, actors: &[u32; 16], k: usize, line: &[u
 }
 
 // Where a walk along two lists of members stands: the next of each, how many are left, and how many were written.
-#[derive(Drop)]
+#[derive(Clone, Copy)]
 pub(crate) struct Names {
     p: usize,
     m: usize,
@@ -154,7 +154,7 @@ fn unite(
 }
 
 // The members of the waiting remove at a place, and where it ends; none, and the place itself, where it isn't taken.
-#[derive(Drop)]
+#[derive(Clone, Copy)]
 pub(crate) struct Part {
     pub(crate) names: usize,
     count: usize,
@@ -182,7 +182,7 @@ pub(crate) fn part_at(s: &[u8], p: usize, taken: usize) -> Part
 }
 
 // What a turn wrote: how many bytes, how many waiting removes, and how many members it names.
-#[derive(Drop)]
+#[derive(Clone, Copy)]
 pub(crate) struct Put {
     long: usize,
     count: usize,
@@ -257,7 +257,7 @@ fn put_wait(
 
 // Where the walk along the waiting removes of two images stands: the next of each, how many are left; the place in the output, how many were kept,
 // and the most members that one names.
-#[derive(Drop)]
+#[derive(Clone, Copy)]
 pub(crate) struct Waits {
     pub(crate) p: usize,
     pub(crate) m: usize,

@@ -1,5 +1,7 @@
 // Dots in 16 places, of which the first n stand for a clock (all 16 where n is larger). Nothing is asked of them: what isn't a clock has an
 // answer too. The walks along one and along two such lists.
+#![tactic(auto)]
+
 ghost use Rattle.std.specs.Prelude.{◌≡◌, ◌&&◌, ◌+◌, ◌<◌, ◌≤◌, min, eqb, leb, take, drop};
 ghost use Rattle.tables.specs.Table.{every, pick};
 ghost use Rattle.dots.specs.Clock.{count, normal};
@@ -12,7 +14,7 @@ ghost use Rattle.places.specs.Walked.{walked};
 use dots::{Actor, Dot};
 
 // What becomes of an actor's two counters: the larger; the smaller; the counter where both are the same; the first where it is beyond the second.
-#[derive(Drop)]
+#[derive(Clone, Copy)]
 pub enum Rule {
     Larger,
     Smaller,
@@ -21,21 +23,21 @@ pub enum Rule {
 }
 
 // A list of dots in places, zero where there is none, and how many dots it has: from place 16 on they are counted and not stored.
-#[derive(Drop)]
+#[derive(Clone, Copy)]
 pub struct Joined {
     pub dots: [Dot; 16],
     pub len: usize,
 }
 
 // The first of the dots ahead, as actor and counter. Where nothing is ahead, the actor is 2^32.
-#[derive(Drop)]
+#[derive(Clone, Copy)]
 struct Head {
     key: u64,
     value: u64,
 }
 
 // One turn of the walk along two: the dot of the lower head's actor, and how far each side goes on, 0 or 1.
-#[derive(Drop)]
+#[derive(Clone, Copy)]
 struct Turn {
     dot: Dot,
     left: usize,

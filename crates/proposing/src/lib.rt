@@ -1,5 +1,6 @@
 // Operations before they are applied (src/orswot.rs of the crate): made from a context by `add`, `add_all`, `rm` and `rm_all`, and judged against a
 // replica by `validate_op`. What is made is what `apply` takes: the operation, the clock beside it, and where it is of one member the list of it.
+#![tactic(auto)]
 ghost use Rattle.std.specs.Prelude.{◌≡◌};
 ghost use Rattle.clocks.specs.Calls.{validate_op_call as dot_call};
 ghost use Rattle.operations.specs.Calls.{validation_says, validate_op_call};
@@ -12,7 +13,7 @@ use image::check;
 use operations::{Op, OpValidation};
 
 // A refusal number, and where it is 0 an operation whose members the caller lists, with the clock beside it.
-#[derive(Drop)]
+#[derive(Clone, Copy)]
 pub struct OpAnswer {
     pub no: u32,
     pub op: Op,
@@ -20,7 +21,7 @@ pub struct OpAnswer {
 }
 
 // The same for an operation of one member.
-#[derive(Drop)]
+#[derive(Clone, Copy)]
 pub struct OneAnswer {
     pub no: u32,
     pub op: Op,

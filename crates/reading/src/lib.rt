@@ -1,4 +1,5 @@
 // What is asked of a replica without changing it: `contains`, `read` and `read_ctx` of src/orswot.rs; and the empty replica (`new`).
+#![tactic(auto)]
 ghost use Rattle.std.specs.Prelude.{◌≡◌, map, ◌<◌, ◌≤◌, length, take};
 ghost use Rattle.std.proofs.lemmas.List.Edits.{sets};
 ghost use Rattle.replica.specs.Limits.{full};
@@ -16,14 +17,14 @@ use image::check;
 use results::Written;
 
 // A refusal number, and where it is 0 the context of a read.
-#[derive(Drop)]
+#[derive(Clone, Copy)]
 pub struct ReadAnswer {
     pub no: u32,
     pub ctx: ReadCtx,
 }
 
 // A refusal number, and where it is 0 the context of a read and how many members were written.
-#[derive(Drop)]
+#[derive(Clone, Copy)]
 pub struct MembersAnswer {
     pub no: u32,
     pub ctx: ReadCtx,

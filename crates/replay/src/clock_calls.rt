@@ -6,7 +6,7 @@ use contexts::ReadCtx;
 use dots::{Actor, Comparison, Dot, DotAnswer, OrdDot};
 use fields::{clock_at, put_clock, put_u32, put_u64, u32_at, u64_at};
 
-#[derive(Drop)]
+#[derive(Clone, Copy)]
 pub(crate) enum DotCall {
     Inc,
     Compare,
@@ -14,7 +14,7 @@ pub(crate) enum DotCall {
 }
 
 // Calls of one clock.
-#[derive(Drop)]
+#[derive(Clone, Copy)]
 pub(crate) enum OneCall {
     Get,
     IsEmpty,
@@ -25,7 +25,7 @@ pub(crate) enum OneCall {
 }
 
 // Calls of two clocks.
-#[derive(Drop)]
+#[derive(Clone, Copy)]
 pub(crate) enum TwoCall {
     Merge,
     ResetRemove,
@@ -37,7 +37,7 @@ pub(crate) enum TwoCall {
     DeriveAddCtx,
 }
 
-#[derive(Drop)]
+#[derive(Clone, Copy)]
 pub(crate) enum ClockCall {
     Dots(DotCall),
     One(OneCall),
@@ -45,7 +45,7 @@ pub(crate) enum ClockCall {
 }
 
 // A refusal number, and the length of what was written, or what a comparison or a yes or no says.
-#[derive(Drop)]
+#[derive(Clone, Copy)]
 struct Said {
     no: u32,
     low: usize,

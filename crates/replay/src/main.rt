@@ -1,5 +1,6 @@
 // Replays stored answers of the Rust crate: makes each line's call and compares the answer and every byte of the output. Prints how many lines of each
 // call agree. oracle/write-answers wrote the two files, whose heads say how to read a line.
+#![tactic(auto)]
 mod clock_calls;
 mod room;
 mod set_calls;
@@ -12,14 +13,14 @@ use crate::set_calls::SetCall;
 use libc::STDOUT_FILENO;
 
 // How many lines of a call there are, and how many of them agree.
-#[derive(Drop)]
+#[derive(Clone, Copy)]
 struct Tally {
     agreed: u64,
     lines: u64,
 }
 
 // Which call a line is replayed as.
-#[derive(Drop)]
+#[derive(Clone, Copy)]
 enum Call {
     Set(SetCall),
     Clock(ClockCall),
@@ -61,7 +62,7 @@ fn in_lines(start: Tally, lines: &[u8], name: &[u8], call: Call) -> Tally {
 }
 
 // A tally, and how many bytes of the file it has seen last.
-#[derive(Drop)]
+#[derive(Clone, Copy)]
 struct Part {
     t: Tally,
     n: u32,

@@ -2,7 +2,7 @@
 use crate::room::{left, lent, zeros};
 use crate::text::{bytes, field, members, number, number_up_to, number32};
 
-#[derive(Drop)]
+#[derive(Clone, Copy)]
 pub(crate) enum SetCall {
     Check,
     Empty,

@@ -1,4 +1,5 @@
 // What a call that writes a replica answers, and how its result is finished.
+#![tactic(auto)]
 ghost use Rattle.std.specs.Prelude.{◌≡◌, ◌-◌, ◌<◌, min};
 ghost use Rattle.std.proofs.lemmas.List.Edits.{sets};
 ghost use Rattle.std.proofs.Math.Seq.{slice};
@@ -9,7 +10,7 @@ use clocks::VClock;
 use fields::index;
 
 // The refusal number, or 0 with the length of what was written.
-#[derive(Drop)]
+#[derive(Clone, Copy)]
 pub struct Written {
     pub no: u32,
     pub len: usize,
@@ -17,7 +18,7 @@ pub struct Written {
 
 // A result without contents and clock: how many entries and waiting removes it has, the most members that a waiting remove names, where the
 // waiting removes start and where they end.
-#[derive(Drop)]
+#[derive(Clone, Copy)]
 pub struct Draft {
     pub entries: u32,
     pub waits: u32,

@@ -1,5 +1,6 @@
 // What stands at a place of an image: an entry, a waiting remove; and a waiting remove written. A byte past the end reads as 0, and is not
 // written: no call asks for room or for a good place.
+#![tactic(auto)]
 ghost use Rattle.std.specs.Prelude.{◌≡◌, ◌+◌, ◌≤◌, ◌<◌, min, length, take};
 ghost use Rattle.layout.specs.Clock.{clock_end};
 ghost use Rattle.layout.specs.Rows.{encode_wait};
@@ -11,14 +12,14 @@ use dots::Member;
 use fields::{clock_at, index, put_clock, put_u32, u32_at};
 
 // An entry.
-#[derive(Drop)]
+#[derive(Clone, Copy)]
 pub struct Row {
     pub member: Member,
     pub clock: VClock,
 }
 
 // A waiting remove: its clock, and how many members its count says.
-#[derive(Drop)]
+#[derive(Clone, Copy)]
 pub struct WaitRow {
     pub clock: VClock,
     pub count: u32,

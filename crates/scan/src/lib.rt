@@ -1,4 +1,5 @@
 // The parts of an image, checked where they stand: clocks, entries, waiting removes, of any bytes. Each answer is the place after what stands there, and 0 where none does.
+#![tactic(auto)]
 ghost use Rattle.std.specs.Prelude.{◌≡◌, ◌+◌, ◌-◌, ◌*◌, ◌<◌, ◌≤◌, length};
 ghost use Rattle.std.proofs.Math.Dec.{compare_is_eq};
 ghost use Rattle.tables.specs.Ascending.{is_lt};
@@ -14,7 +15,7 @@ ghost use Rattle.scan.specs.Scan.{DotsIn, clock_ends, members_end, row_ends, wai
 use fields::{index, u32_at, u64_at};
 
 // Entries that stand one after the other: where the last ends, and where each stands. All zero where not.
-#[derive(Drop)]
+#[derive(Clone, Copy)]
 pub struct Table {
     pub good: bool,
     pub next: usize,
@@ -22,7 +23,7 @@ pub struct Table {
 }
 
 // The same of waiting removes.
-#[derive(Drop)]
+#[derive(Clone, Copy)]
 pub struct Waits {
     pub good: bool,
     pub next: usize,

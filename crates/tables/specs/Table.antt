@@ -306,7 +306,7 @@ module _ {K : Type 0} (cmp : K → K → Ordering) (O : Order cmp) where
         go Ordering.lt e l = some≢none x (sym at_x ∙ f (key x) ∙ find_below (key x) (y ∷ ys) (e, below_trans (key x) (key y) (map key ys) e g.0))
         go Ordering.eq e l =
             let p : key x ≡ key y = O.same (key x) (key y) e in
-            let q : some x ≡ some y = sym at_x ∙ f (key x) ∙ rw p at_y in
+            let q : some x ≡ some y = sym at_x ∙ f (key x) ∙ ap (λ (k : K). find cmp key k (y ∷ ys)) p ∙ at_y in
             ap₂ ◌∷◌ (cc) (l (tails p))
         go Ordering.gt e l =
             let e' = gt_lt cmp O (key x) (key y) e in

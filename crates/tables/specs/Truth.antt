@@ -40,7 +40,7 @@ or_e false b t f g = g t
 
 pub table : (n : ℕ) (f : Test n) → T (always n f) → Always n f
 table zero f t = t
-table (suc n) f t = λ b. elim b [
+table (suc n) f t = λ b. elim b as (λ k. Always n (f k)) [
   | true ↦ table n (f true) (and_l (always n (f true)) (always n (f false)) t)
   | false ↦ table n (f false) (and_r (always n (f true)) (always n (f false)) t)
 ]

@@ -1,4 +1,5 @@
 // Whether two replicas may be merged (`validate_merge` of src/orswot.rs): a dot that both hold, each for another member, is reported.
+#![tactic(auto)]
 ghost use Rattle.std.specs.Prelude.{◌≡◌, true, not, ◌&&◌, map, ◌+◌, ◌*◌, ◌<◌, ◌≤◌, eqb, length, take};
 ghost use Rattle.std.proofs.lemmas.List.Edits.{sets};
 ghost use Rattle.dots.specs.Rising.{rising};
@@ -14,7 +15,7 @@ use fields::{index, u32_at, u64_at};
 use image::check;
 
 // A dot, the member that holds it with us, and the one that holds it with them.
-#[derive(Drop)]
+#[derive(Clone, Copy)]
 pub struct Spent {
     pub dot: Dot,
     pub our: Member,
@@ -22,7 +23,7 @@ pub struct Spent {
 }
 
 // Nothing to report; refused with 1 or 2; a double-spent dot (12).
-#[derive(Drop)]
+#[derive(Clone, Copy)]
 pub enum Validation {
     Valid,
     BadFirst,
@@ -67,7 +68,7 @@ fn u64_in(s: &[u8], at: usize) -> u64
 }
 
 // Dots that stand from a place on, and how far those before count the actor that was asked for.
-#[derive(Drop)]
+#[derive(Clone, Copy)]
 struct Ahead {
     place: usize,
     left: usize,

@@ -1,11 +1,12 @@
 // A walk over the entries of a replica's image: it remembers the lent image and its place in it. Begun on an image that isn't well-formed, it hands out none.
+#![tactic(auto)]
 ghost use Rattle.std.specs.Prelude.{◌≡◌, ◌<◌};
 ghost use Rattle.walk.specs.Walks.{end_at, start_at, hand_at, part_at, onward_at};
 
 use dots::Member;
 use fields::{index, u32_at};
 
-#[derive(Drop)]
+#[derive(Clone, Copy)]
 pub enum Hand {
     One(Member),
     Nothing,
@@ -72,7 +73,7 @@ pub fn onward_at(s: &[u8], at: usize) -> usize
 
 // ---- the walk
 
-#[derive(Drop)]
+#[derive(Clone, Copy)]
 pub struct Walk<'a> {
     img: &'a [u8],
     at: usize,

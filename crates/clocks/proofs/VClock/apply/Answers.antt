@@ -1,0 +1,7 @@
+use mathlib.Core.Path.{◌∙◌}
+use Rattle.clocks.proofs.Answers.{apply-join}
+use borrow.Author.Rules.{rules}
+use Rattle.clocks.proofs.VClock.apply.Goals as goal
+
+pub returns : goal.returns
+returns c = c.joined.ensures ∙ rw c.from_dot.ensures (apply-join _ _)

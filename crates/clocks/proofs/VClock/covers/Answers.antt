@@ -1,0 +1,6 @@
+use Rattle.clocks.proofs.Answers.{covers-is}
+use borrow.Author.Rules.{rules}
+use Rattle.clocks.proofs.VClock.covers.Goals as goal
+
+pub returns : goal.returns
+returns c = covers-is _ _ c.requires _ c.covers.ensures

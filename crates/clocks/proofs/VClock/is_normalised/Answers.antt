@@ -1,0 +1,7 @@
+use Rattle.clocks.specs.VClock.{normalised}
+use borrow.Author.Rules.{rules}
+use Rattle.clocks.proofs.VClock.is_normalised.Goals as goal
+
+pub returns : goal.returns
+unfolding normalised
+returns c = c.normal.ensures

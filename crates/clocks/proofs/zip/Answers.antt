@@ -1,0 +1,6 @@
+use Rattle.clocks.proofs.Answers.{zip-is}
+use borrow.Author.Rules.{rules}
+use Rattle.clocks.proofs.zip.Goals as goal
+
+pub returns : goal.returns
+returns c = zip-is _ _ _ c.requires _ c.zip-z.ensures
