@@ -1,5 +1,6 @@
 // Contexts (src/ctx.rs of the crate): what a read hands out, and what an add or a remove is made from. Each call judges both clocks of a read context, used or not.
 #![tactic(auto)]
+
 ghost use Rattle.std.specs.Prelude.{◌≡◌};
 ghost use Rattle.contexts.specs.Contexts.{fit, refused_add, add_ctx_call, rm_ctx_call, split_call};
 

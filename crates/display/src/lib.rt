@@ -1,5 +1,6 @@
 // The clock's Display: its dots as text, written into a lent output.
 #![tactic(auto)]
+
 ghost use Rattle.std.specs.Prelude.{◌≡◌, ◌++◌, ◌≤◌, length};
 ghost use Rattle.clocks.specs.VClock.{dots_of};
 ghost use Rattle.display.specs.Text.{width, digits, decimal, dot_text, item, items, text, shown, shown_in};

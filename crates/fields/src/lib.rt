@@ -1,5 +1,6 @@
 // Fields of a byte image: clocks, entries and contents, beside numbers. A byte past the end reads as 0, and is not written: no reader or writer asks for room.
 #![tactic(auto)]
+
 ghost use Rattle.std.specs.Prelude.{◌≡◌, ◌+◌, ◌*◌, ◌<◌, ◌≤◌, min};
 ghost use Rattle.std.proofs.lemmas.List.Edits.{sets};
 ghost use Rattle.clocks.specs.VClock.{dots_of, vclock};

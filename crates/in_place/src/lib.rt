@@ -1,5 +1,6 @@
 // A clock that the caller holds, brought forward in place by one dot or by another clock: the by-value calls, stored.
 #![tactic(auto)]
+
 ghost use Rattle.std.specs.Prelude.{◌≡◌};
 ghost use Rattle.clocks.specs.Calls.{apply_call, merge_call};
 ghost use Rattle.in_place.specs.Kept.{kept};

@@ -1,5 +1,6 @@
 // Little-endian numbers in bytes. A byte past the end reads as 0, and is not written: no reader or writer asks for room.
 #![tactic(auto)]
+
 ghost use Rattle.std.specs.Prelude.{◌≡◌, ◌+◌, ◌*◌, ◌<◌, ◌≤◌, leb, length, get_or, set};
 ghost use Rattle.std.proofs.lemmas.List.Edits.{sets};
 ghost use Rattle.layout.specs.Fields.{u16_at, u32_at, u64_at, le32, le64};

@@ -1,0 +1,6 @@
+use borrow.Author.Rules.{rules}
+use Rattle.contexts.proofs.refused.Goals as goal
+
+-- `contexts::refused` meets its contract.
+pub returns : goal.returns
+returns c = simp (c.new-clock.ensures, c.new-dot.ensures)
