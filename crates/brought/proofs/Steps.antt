@@ -10,11 +10,12 @@ use Rattle.tables.specs.Stores.{sets_append}
 use Rattle.tables.specs.Zip.{by_lt}
 use Rattle.clocks.specs.declared.VClock.{VClock}
 use Rattle.clocks.specs.VClock.{dots_of}
-use Rattle.layout.specs.Fields.{le32, length_le32}
+use Rattle.layout.specs.Fields.{le32}
+use Rattle.layout.proofs.FieldsFacts.{length_le32}
 use Rattle.layout.specs.Lists.{bytes_of}
 use Rattle.layout.specs.Clock.{encode_clock}
 use Rattle.layout.specs.Rows.{encode_members, encode_wait, encode_wait_in}
-use Rattle.layout.specs.Kit.{length_encode_members}
+use Rattle.layout.proofs.KitFacts.{length_encode_members}
 use Rattle.fields.specs.Read.{Put}
 use Rattle.fields.proofs.Steps.{sets_past}
 use Rattle.lists.specs.declared.Members.{Members}

@@ -17,13 +17,19 @@ use Rattle.dots.specs.Covering.{by_eq, count_same, count_other}
 use Rattle.dots.specs.Ruled.{applied_normal, applied_count}
 use Rattle.replica.specs.Replica.{Entry, Wait, Replica, entries, clock_of, member_sets, entry, holds}
 use Rattle.replica.specs.Rules.{set_of, add, remove, reset}
-use Rattle.replica.specs.WellFormed.{Fine, sound, sound_fine}
+use Rattle.replica.specs.WellFormed.{Fine, sound}
+use Rattle.replica.proofs.WellFormedFacts.{sound_fine}
 use Rattle.replica.specs.Removes.{FineEntries}
-use Rattle.replica.specs.Listed.{listed, set_listed, set_normal}
-use Rattle.replica.specs.Kills.{kills_of, killed_number}
-use Rattle.replica.specs.AddLaws.{Added, added, above}
-use Rattle.replica.specs.RemoveLaws.{Removed, removed}
-use Rattle.replica.specs.ResetLaws.{WasReset, was_reset}
+use Rattle.replica.specs.Listed.{listed}
+use Rattle.replica.proofs.ListedFacts.{set_listed, set_normal}
+use Rattle.replica.specs.Kills.{kills_of}
+use Rattle.replica.proofs.KillsFacts.{killed_number}
+use Rattle.replica.specs.AddLaws.{Added}
+use Rattle.replica.proofs.AddLaws.{added, above}
+use Rattle.replica.specs.RemoveLaws.{Removed}
+use Rattle.replica.proofs.RemoveLaws.{removed}
+use Rattle.replica.specs.ResetLaws.{WasReset}
+use Rattle.replica.proofs.ResetLaws.{was_reset}
 use Rattle.changing.specs.Kept.{line_of, keep_of, kept_clock, kept_entries, side, Along, kept_join}
 
 -- ---- entries that are, counter by counter, what stays of two sides along the actors of v

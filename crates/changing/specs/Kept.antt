@@ -21,8 +21,10 @@ use Rattle.replica.specs.Replica.{Entry, Replica, entries, entry, holds, seen, k
 use Rattle.replica.specs.Rules.{stay, merge}
 use Rattle.replica.specs.WellFormed.{Fine}
 use Rattle.replica.specs.Merged.{live}
-use Rattle.replica.specs.ByDots.{live_at, by_dots, literal}
-use Rattle.replica.specs.Kills.{kills_of, killed_number}
+use Rattle.replica.specs.ByDots.{live_at, by_dots}
+use Rattle.replica.proofs.ByDotsFacts.{literal}
+use Rattle.replica.specs.Kills.{kills_of}
+use Rattle.replica.proofs.KillsFacts.{killed_number}
 
 -- up to which counter a replica has seen the actor's dots, or has a waiting remove that takes them from the member
 unfoldable pub line_of : Replica → ℕ → ℕ → ℕ

@@ -13,7 +13,8 @@ use Rattle.dots.specs.Clock.{Clock, covers, merged, cmp_clock}
 use Rattle.replica.specs.Replica.{Wait, Replica, waits, member_sets, wait?}
 use Rattle.replica.specs.Rules.{unite, merge}
 use Rattle.replica.specs.WellFormed.{Fine}
-use Rattle.replica.specs.ByDots.{by_dots, literal}
+use Rattle.replica.specs.ByDots.{by_dots}
+use Rattle.replica.proofs.ByDotsFacts.{literal}
 
 unfoldable pub kept_waits : Clock → List Wait → List Wait → List Wait
 kept_waits v xs ys = zip waits (λ c x y. pick (covers v c) none (unite x y)) xs ys

@@ -12,11 +12,13 @@ use Rattle.dots.specs.Clock.{Clock, normal, covers, filled, applied, reset_by}
 use Rattle.dots.specs.ClockLaws.{dot_proper, normal_empty, normal_from, reset_normal}
 use Rattle.replica.specs.Replica.{Wait, Replica, waits, holds}
 use Rattle.replica.specs.Rules.{set_of, unite, join_waits, uncovered, settle, add, remove, rewait, reset_waits, reset}
-use Rattle.replica.specs.WellFormed.{Fine, sound, sound_fine, fine_sound}
-use Rattle.replica.specs.Waits.{GoodWait, Each, unite_none, unite_good, one_normal, joined_get, joined_normal}
-use Rattle.replica.specs.Listed.{set_normal}
-use Rattle.replica.specs.Settle.{late_normal, late_get}
-use Rattle.replica.specs.ResetLaws.{was_reset}
+use Rattle.replica.specs.WellFormed.{Fine, sound}
+use Rattle.replica.proofs.WellFormedFacts.{sound_fine, fine_sound}
+use Rattle.replica.specs.Waits.{GoodWait, Each}
+use Rattle.replica.proofs.WaitsFacts.{unite_none, unite_good, one_normal, joined_get, joined_normal}
+use Rattle.replica.proofs.ListedFacts.{set_normal}
+use Rattle.replica.proofs.Settle.{late_normal, late_get}
+use Rattle.replica.proofs.ResetLaws.{was_reset}
 use Rattle.changing.specs.KeptWaits.{kept_waits}
 
 none_normal : Normal waits []

@@ -12,8 +12,8 @@ use Rattle.layout.specs.Lists.{list_at, starts_at}
 use Rattle.layout.specs.Clock.{clock_at}
 use Rattle.layout.specs.Rows.{row_at, row_end, places_at}
 use Rattle.layout.specs.Image.{image_in, image_of, good_image, entries_start, entries_count}
-use Rattle.layout.specs.Kit.{length_starts_at, place_good}
-use Rattle.layout.specs.Checks.{passed}
+use Rattle.layout.proofs.KitFacts.{length_starts_at, place_good}
+use Rattle.layout.proofs.Checks.{passed}
 use Rattle.image.specs.declared.Image.{Image}
 use Rattle.image.specs.Image.{image_of_bytes, check_image}
 use Rattle.image.proofs.Whole.{read_good}

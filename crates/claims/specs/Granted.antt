@@ -6,23 +6,25 @@ use Rattle.std.proofs.Common.{◌∙◌, arith, le-ltb}
 use mathlib.Core.List.{List, [], ◌∷◌, ◌++◌}
 use Rattle.std.proofs.Math.Dec.{eqb-suc-zero}
 use Rattle.tables.specs.Table.{pick}
-use Rattle.tables.specs.Refusal.{Refusal, ◌if◌, first_of, NoneApplies, first_append}
+use Rattle.tables.specs.Refusal.{Refusal, ◌if◌, first_of, NoneApplies}
+
 use Rattle.replica.specs.Replica.{Replica}
-use Rattle.replica.specs.Limits.{Limits, full, limits_of, broken, well_formed, unbroken_right}
+use Rattle.replica.specs.Limits.{Limits, full, limits_of, broken, well_formed}
+
 use Rattle.replica.specs.History.{Event, step}
 use Rattle.replica.specs.HistoryLaws.{fair}
-use Rattle.replica.specs.LimitLaws.{fits, step_well_formed}
+use Rattle.replica.specs.LimitLaws.{fits}
+
 use Rattle.layout.specs.Fields.{Bytes}
 use Rattle.layout.specs.Clock.{narrow}
 use Rattle.layout.specs.Image.{encode, image_of, good_image}
 use Rattle.layout.specs.Fits.{Fits}
-use Rattle.layout.specs.Parts.{sound_narrow}
-use Rattle.layout.specs.Round.{bytes_encode}
-use Rattle.layout.specs.Main.{at_most, good_encode, image_encode, good_formed, good_fits}
+
 use Rattle.results.specs.declared.Written.{Written}
 use Rattle.results.specs.Call.{Call, finish_of, number_of, answered, answer_of, Meets}
-use Rattle.results.specs.Laws.{Orderly, done_exactly, refused_keeps, granted_writes}
-use Rattle.claims.specs.Fitting.{FitsEvent, step_fits}
+use Rattle.results.specs.Laws.{Orderly}
+
+use Rattle.claims.specs.Fitting.{FitsEvent}
 
 -- the bytes are the image of a well-formed replica
 pub record WellFormed (a : List ℕ) : Type 0 where
@@ -53,75 +55,3 @@ pub record Does (c : Call) (a : List ℕ) (e : Event) : Type 0 where
   pub orderly : Orderly c
   pub result_is : c.result ≡ step e (image_of a)
   pub passes : NoneApplies c.refusals → Fit a e
-
--- refusals that don't apply are passed over; and of a result with room, where the limits grant it, the limits decide
-skip : (xs ys : List Refusal) → NoneApplies xs → first_of (xs ++ ys) ≡ first_of ys
-unfolding first_of
-skip [] ys h = refl
-skip (x ∷ xs) ys h = rw h.0 (skip xs ys h.1)
-
-finish : (l : Limits) (A : Replica) (room : ℕ) → (broken l A ≡ 0 → ltb room (length (encode A)) ≡ false) → first_of (finish_of l A room) ≡ broken l A
-unfolding broken limits_of first_of
-finish l A room h = first_append (limits_of l A) (10 if ltb room (length (encode A)) ∷ []) (omega arith, (omega arith, (omega arith, (omega arith, tt)))) ∙ go (broken l A) refl
-  where
-    go : (n : ℕ) → broken l A ≡ n → pick (eqb n 0) (pick (ltb room (length (encode A))) 10 0) n ≡ n
-    go zero e = rw (h e)
-    go (suc n) e = rw (eqb-suc-zero n)
-
--- the image of a well-formed replica whose numbers fit
-well_formed_encode : (A : Replica) → T (well_formed full A) → Fits A → WellFormed (encode A)
-well_formed_encode A w f = record { bytes = bytes_encode narrow sound_narrow A; good = good_encode A w f }
-
-module _ {c : Call} {a : List ℕ} {e : Event} (does : Does c a e) (bytes : Bytes a) where
-  abbrev M : Replica
-  M = step e (image_of a)
-
-  -- where the arguments pass and no limit is broken, the result is well-formed and its numbers fit
-  result_formed : NoneApplies c.refusals → broken full M ≡ 0 → T (well_formed full M) × Fits M
-  result_formed n b =
-      let p = does.passes n in
-      (step_well_formed full e (image_of a) p.event_fits (good_formed a p.image_good) b, step_fits e (image_of a) p.numbers_fit (good_fits a bytes p.image_good))
-
-  module _ {before after : List ℕ} {r : Written} (kept : Meets full c before r after) where
-    unrefused : Granted r → NoneApplies c.refusals × (broken full M ≡ 0)
-    unrefused g =
-        let d = (done_exactly full c before r after kept does.orderly).0 g in
-        (d.0, (unbroken_right full M).1 (rw does.result_is at d.1))
-
-    pub granted_fit : Granted r → Fit a e
-    granted_fit g = does.passes (unrefused g).0
-
-    pub written : Granted r → image r after ≡ encode M
-    written g = (granted_writes full c before r after kept does.orderly g).image_is ∙ ap encode does.result_is
-
-    pub granted_well_formed : Granted r → WellFormed (image r after)
-    granted_well_formed g =
-        let u = unrefused g in
-        let f = result_formed u.0 u.1 in
-        rw (written g) (well_formed_encode M f.0 f.1)
-
-    pub granted_says : Granted r → image_of (image r after) ≡ M
-    granted_says g =
-        let u = unrefused g in
-        let f = result_formed u.0 u.1 in
-        ap image_of (written g) ∙ image_encode M f.0 f.1
-
-    -- where the arguments pass and the output has room for any image, the limits alone decide: in hand is the image of the result, or one of 6 to 9
-    module _ (passed : NoneApplies c.refusals) (roomy : Roomy before) where
-      room : broken full M ≡ 0 → ltb (length before) (length (encode M)) ≡ false
-      room b = le-ltb (length before) (length (encode M)) (let h = at_most M (result_formed passed b).0 in omega arith)
-
-      number : number_of full c (length before) ≡ broken full M
-      unfolding number_of
-      number = skip c.refusals (finish_of full c.result (length before)) passed ∙ ap (λ (A : Replica). first_of (finish_of full A (length before))) does.result_is ∙ finish full M (length before) room
-
-      pub in_hand : (r ≡ answered (broken full M) (length (encode M))) × (image r after ≡ pick (eqb (broken full M) 0) (encode M) [])
-      unfolding answer_of answered
-      in_hand = (
-        kept.answer ∙ ap₂ (λ (n : ℕ) (A : Replica). answered n (length (encode A))) number does.result_is,
-        go (broken full M) (ap (λ (w : Written). w.no) kept.answer ∙ number),
-      )
-        where
-          go : (n : ℕ) → r.no ≡ n → image r after ≡ pick (eqb n 0) (encode M) []
-          go zero g = written g
-          go (suc n) g = rw (eqb-suc-zero n, (refused_keeps full c before r after kept (λ z. omega arith)).1)

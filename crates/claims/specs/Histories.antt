@@ -12,18 +12,22 @@ use Rattle.replica.specs.Replica.{Replica, is_in, holds}
 use Rattle.replica.specs.Rules.{remove}
 use Rattle.replica.specs.Listed.{listed}
 use Rattle.replica.specs.WellFormed.{sound}
-use Rattle.replica.specs.Limits.{full, well_formed_from}
+use Rattle.replica.specs.Limits.{full}
+
 use Rattle.replica.specs.History.{Event, apply, step, run}
-use Rattle.replica.specs.HistoryLaws.{fair, run_judged}
-use Rattle.replica.specs.StaysDown.{forgets, stays_down_all, back_by_new}
+use Rattle.replica.specs.HistoryLaws.{fair}
+
+use Rattle.replica.specs.StaysDown.{forgets}
+
 use Rattle.layout.specs.Fields.{Bytes}
 use Rattle.layout.specs.Image.{image_of}
-use Rattle.layout.specs.Main.{good_formed}
+
 use Rattle.results.specs.declared.Written.{Written}
 use Rattle.results.specs.Call.{Meets}
 use Rattle.operations.specs.declared.Op.TheVariants.{Remove}
-use Rattle.claims.specs.Granted.{WellFormed, Granted, image, Fit, granted_fit, granted_well_formed, granted_says}
-use Rattle.claims.specs.Requests.{Request, apply_op, call_on, event_of, Lent, does}
+use Rattle.claims.specs.Granted.{WellFormed, Granted, image, Fit}
+
+use Rattle.claims.specs.Requests.{Request, apply_op, call_on, event_of, Lent}
 
 -- the promise of a request on an image: r is its answer, and `after` are the output's bytes where `before` was lent
 abbrev pub Answers : Request → List ℕ → List ℕ → Written → List ℕ → Type 0
@@ -50,67 +54,3 @@ pub record Ran (a : List ℕ) (later : List Request) (z : List ℕ) : Type 0 whe
   pub end_formed : WellFormed z
   pub end_says : image_of z ≡ run granted (image_of a)
   pub no_more : (x n : ℕ) → Unforgotten later x n → any (forgets x n) granted ≡ false
-
-neither : (a b : Bool) → (a || b) ≡ false → (a ≡ false) × (b ≡ false)
-neither true b e = absurd (false≢true (sym e))
-neither false b e = (refl, e)
-
-pub ran : {a z : List ℕ} {later : List Request} → WellFormed a → History a later z → Ran a later z
-unfolding run
-ran w ends = record { granted = []; all_fair = tt; end_formed = w; end_says = refl; no_more = λ x n e. refl }
-ran {a} {z} w (goes {before = before} {after = after} {q = q} {later = later} {r = r} l kept h) = go (eqb r.no 0) refl (λ v. ran v h)
-  where
-    go : (b : Bool) → eqb r.no 0 ≡ b → (WellFormed (pick b (image r after) a) → Ran (pick b (image r after) a) later z) → Ran a (q ∷ later) z
-    go true e rest =
-        let g = eqb-true r.no 0 e in
-        let t = rest (granted_well_formed (does q a l) w.bytes kept g) in
-        record {
-          granted = event_of q ∷ t.granted;
-          all_fair = and_i (fair (event_of q)) (every fair t.granted) (granted_fit (does q a l) w.bytes kept g).event_fair t.all_fair;
-          end_formed = t.end_formed;
-          end_says = t.end_says ∙ ap (run t.granted) (granted_says (does q a l) w.bytes kept g);
-          no_more = λ x n e.
-              let o = neither (forgets x n (event_of q)) (any (λ p. forgets x n (event_of p)) later) e in
-              rw o.0 (t.no_more x n o.1);
-        }
-    go false e rest =
-        let t = rest w in
-        record {
-          granted = t.granted;
-          all_fair = t.all_fair;
-          end_formed = t.end_formed;
-          end_says = t.end_says;
-          no_more = λ x n e. t.no_more x n (neither (forgets x n (event_of q)) (any (λ p. forgets x n (event_of p)) later) e).1;
-        }
-
--- ---- what is taken down
-
-module _ (a : List ℕ) (c : VClock) (ms : List ℕ) {before after z : List ℕ} {later : List Request} {r : Written} (bytes : Bytes a) (lent : Lent (apply_op Remove c ms))
-    (removes : Answers (apply_op Remove c ms) a before r after) (done : Granted r) (history : History (image r after) later z) where
-  fit : Fit a (event_of (apply_op Remove c ms))
-  fit = granted_fit (does (apply_op Remove c ms) a lent) bytes removes done
-
-  clock_ok : T (normal (dots_of c))
-  unfolding fair
-  clock_ok = fit.event_fair
-
-  replica_ok : T (sound (image_of a))
-  replica_ok = (well_formed_from full (image_of a) (good_formed a fit.image_good)).0
-
-  t : Ran (image r after) later z
-  t = ran (granted_well_formed (does (apply_op Remove c ms) a lent) bytes removes done) history
-
-  end : image_of z ≡ run t.granted (remove (dots_of c) ms (image_of a))
-  unfolding step apply
-  end = t.end_says ∙ ap (run t.granted) (granted_says (does (apply_op Remove c ms) a lent) bytes removes done)
-
-  pub stays_down : (m x n : ℕ) → T (listed ms m) → 0 < n → n ≤ count (dots_of c) x → Unforgotten later x n → holds (image_of z) m x n ≡ false
-  stays_down m x n i p k u =
-      ap (λ (A : Replica). holds A m x n) end
-      ∙ stays_down_all (dots_of c) ms (image_of a) t.granted clock_ok replica_ok t.all_fair m x n i p k (t.no_more x n u)
-
-  pub comes_back_new : (m : ℕ) → T (listed ms m) → ((x n : ℕ) → 0 < n → n ≤ count (dots_of c) x → Unforgotten later x n)
-      → T (is_in (image_of z) m) → (x : ℕ) × (n : ℕ) × T (holds (image_of z) m x n) × (count (dots_of c) x < n)
-  comes_back_new m i u v =
-      let e = end ∙ run_judged t.granted (remove (dots_of c) ms (image_of a)) in
-      rw e (back_by_new (λ e A. true) (dots_of c) ms (image_of a) t.granted clock_ok replica_ok t.all_fair m i (λ x n p k. t.no_more x n (u x n p k)) (rw e at v))

@@ -1,5 +1,4 @@
 -- The page that a reader is sent to
-pub mod Claims
 -- Its notions and steps
 pub mod Requests
 pub mod Granted

@@ -3,21 +3,24 @@ use Rattle.std.specs.Prelude.{ℕ, ◌<◌, ◌≡◌, refl, ◌↔◌, Bool, tr
 use Rattle.std.proofs.Common.{sym, ap, ◌∙◌, arith}
 use Rattle.std.proofs.lemmas.Bool.{false≢true}
 use Rattle.tables.specs.Table.{pick}
-use Rattle.tables.specs.Refusal.{NoneApplies, first_of, first_right}
+use Rattle.tables.specs.Refusal.{NoneApplies, first_of}
+
 use Rattle.dots.specs.Rising.{true_from}
 use Rattle.replica.specs.Replica.{Replica}
 use Rattle.replica.specs.Rules.{merge}
 use Rattle.replica.specs.WellFormed.{sound}
-use Rattle.replica.specs.Limits.{full, broken, well_formed_from}
+use Rattle.replica.specs.Limits.{full, broken}
+
 use Rattle.replica.specs.History.{step}
 use Rattle.layout.specs.Image.{encode, image_of, good_image}
-use Rattle.layout.specs.Main.{good_formed}
+
 use Rattle.results.specs.declared.Written.{Written}
 use Rattle.results.specs.Call.{answered, Meets}
-use Rattle.results.specs.Laws.{argument_exactly}
+
 use Rattle.merging.specs.Merge.{merge_call}
-use Rattle.claims.specs.Granted.{WellFormed, Granted, Roomy, image, granted_well_formed, granted_says, in_hand}
-use Rattle.claims.specs.Requests.{merge_with, in_order, does}
+use Rattle.claims.specs.Granted.{WellFormed, Granted, Roomy, image}
+
+use Rattle.claims.specs.Requests.{merge_with}
 
 -- the promise of merge(a, b, out): r is its answer, and `after` are the output's bytes where `before` was lent
 abbrev pub Merges : List ℕ → List ℕ → List ℕ → Written → List ℕ → Type 0
@@ -28,70 +31,12 @@ pub record Same (r : Written) (p : List ℕ) (s : Written) (q : List ℕ) : Type
   pub answers : r ≡ s
   pub bytes : image r p ≡ image s q
 
--- ---- one merge
-
-pub well_formed_sound : {a : List ℕ} → WellFormed a → T (sound (image_of a))
-well_formed_sound {a} w = (well_formed_from full (image_of a) (good_formed a w.good)).0
-
-pub within_limits : {a : List ℕ} → WellFormed a → broken full (image_of a) ≡ 0
-within_limits {a} w = (well_formed_from full (image_of a) (good_formed a w.good)).1
-
-both_pass : (a b : List ℕ) → WellFormed a → WellFormed b → NoneApplies (merge_call a b).refusals
-unfolding merge_call
-both_pass a b v w = (ap not (true_from (good_image a) v.good), (ap not (true_from (good_image b) w.good), tt))
-
 -- what is in hand after a merge whose result is the replica M: the limits' number with nothing, or the image of M
 pub record Outcome (M : Replica) (r : Written) (after : List ℕ) : Type 0 where
   pub answer_is : r ≡ answered (broken full M) (length (encode M))
   pub image_is : image r after ≡ pick (eqb (broken full M) 0) (encode M) []
 
-pub outcome : {a b before after : List ℕ} {r : Written} → WellFormed a → WellFormed b → Roomy before → Merges a b before r after → Outcome (merge (image_of a) (image_of b)) r after
-unfolding step
-outcome {a} {b} v w room kept =
-    let h = in_hand (does (merge_with b) a w.bytes) v.bytes kept (both_pass a b v w) room in
-    record { answer_is = h.0; image_is = h.1 }
-
--- the same result is the same in hand
-pub same : {M N : Replica} {r s : Written} {p q : List ℕ} → M ≡ N → Outcome M r p → Outcome N s q → Same r p s q
-same e m n = record {
-  answers = m.answer_is ∙ ap (λ (A : Replica). answered (broken full A) (length (encode A))) e ∙ sym n.answer_is;
-  bytes = m.image_is ∙ ap (λ (A : Replica). pick (eqb (broken full A) 0) (encode A) []) e ∙ sym n.image_is;
-}
-
--- a granted merge of bytes hands on a well-formed image of the merge
-module _ (a b : List ℕ) {before after : List ℕ} {r : Written} (v : WellFormed a) (w : WellFormed b) (kept : Merges a b before r after) (done : Granted r) where
-  pub merged_formed : WellFormed (image r after)
-  merged_formed = granted_well_formed (does (merge_with b) a w.bytes) v.bytes kept done
-
-  pub merged_says : image_of (image r after) ≡ merge (image_of a) (image_of b)
-  unfolding step
-  merged_says = granted_says (does (merge_with b) a w.bytes) v.bytes kept done
-
 -- ---- which side is refused
 
-abbrev side : Bool → Bool → ℕ
+abbrev pub side : Bool → Bool → ℕ
 side x y = pick (not x) 1 (pick (not y) 2 0)
-
-side_one : (x y : Bool) → (side x y ≡ 1) ↔ (x ≡ false)
-side_one false y = (λ z. refl, λ z. refl)
-side_one true false = (λ z. absurd (omega arith), λ z. absurd (false≢true (sym z)))
-side_one true true = (λ z. absurd (omega arith), λ z. absurd (false≢true (sym z)))
-
-side_two : (x y : Bool) → (side x y ≡ 2) ↔ ((x ≡ true) × (y ≡ false))
-side_two false y = (λ z. absurd (omega arith), λ z. absurd (false≢true z.0))
-side_two true false = (λ z. (refl, refl), λ z. refl)
-side_two true true = (λ z. absurd (omega arith), λ z. absurd (false≢true (sym z.1)))
-
-module _ (a b : List ℕ) {before after : List ℕ} {r : Written} (kept : Merges a b before r after) where
-  by_side : (k : ℕ) → 0 < k → k < 6 → (r.no ≡ k) ↔ (side (good_image a) (good_image b) ≡ k)
-  unfolding merge_call first_of
-  by_side k p q =
-      let e = argument_exactly full (merge_call a b) before r after kept (in_order (merge_with b) a) k p q in
-      let f = first_right (merge_call a b).refusals k p in
-      (λ z. f.1 (e.0 z), λ z. e.1 (f.0 z))
-
-  pub first_side : (r.no ≡ 1) ↔ (good_image a ≡ false)
-  first_side = let e = by_side 1 (omega arith) (omega arith) in let f = side_one (good_image a) (good_image b) in (λ z. f.0 (e.0 z), λ z. e.1 (f.1 z))
-
-  pub second_side : (r.no ≡ 2) ↔ ((good_image a ≡ true) × (good_image b ≡ false))
-  second_side = let e = by_side 2 (omega arith) (omega arith) in let f = side_two (good_image a) (good_image b) in (λ z. f.0 (e.0 z), λ z. e.1 (f.1 z))

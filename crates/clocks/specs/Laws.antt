@@ -10,7 +10,8 @@ use native.Mathlib.Omega.{arith}
 use Rattle.tables.specs.Table.{Normal, every, pick}
 use Rattle.tables.specs.Ascending.{ascending, before}
 use Rattle.tables.specs.Zip.{zip}
-use Rattle.tables.specs.Refusal.{first_of, done_right}
+use Rattle.tables.specs.Refusal.{first_of}
+use Rattle.tables.proofs.RefusalFacts.{done_right}
 use Rattle.dots.specs.declared.Dot.{Dot}
 use Rattle.dots.specs.declared.DotRange.{DotRange}
 use Rattle.dots.specs.declared.Comparison.TheVariants.{Greater, None}

@@ -9,7 +9,8 @@ use Rattle.std.proofs.Math.Dec.{eqb-zero-suc}
 use Rattle.tables.specs.Order.{nat_order}
 use Rattle.tables.specs.Truth.{and_l, and_r, and_i}
 use Rattle.tables.specs.Table.{Normal, Proper, every, all_map, every_all, all_every, every_map, by_row, key_at, every_at, at_every, normal_sift, get_sift, pick, pick_both, is_some, ext}
-use Rattle.tables.specs.Ascending.{ascending, asc_from, asc_to}
+use Rattle.tables.specs.Ascending.{ascending}
+use Rattle.tables.proofs.AscendingFacts.{asc_from, asc_to}
 use Rattle.tables.specs.Zip.{get_zip, normal_zip}
 use Rattle.dots.specs.declared.Dot.{Dot}
 use Rattle.dots.specs.Dot.{clocks, dot, dot?, counter_of, actor_of}

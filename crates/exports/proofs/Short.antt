@@ -18,15 +18,18 @@ use Rattle.dots.specs.Rising.{true_from}
 use Rattle.clocks.specs.declared.VClock.{VClock}
 use Rattle.clocks.specs.VClock.{dots_of, normalised, few, dots_normal}
 use Rattle.replica.specs.Replica.{Replica}
-use Rattle.replica.specs.Limits.{full, Within, well_formed, unbroken_right, well_formed_from}
+use Rattle.replica.specs.Limits.{full, Within, well_formed}
+use Rattle.replica.proofs.LimitsFacts.{unbroken_right, well_formed_from}
 use Rattle.replica.specs.History.{Event, Apply, MergeWith, Reset, Add as Adds, Remove as Removes, apply, step}
-use Rattle.replica.specs.LimitLaws.{fits, step_well_formed}
+use Rattle.replica.specs.LimitLaws.{fits}
+use Rattle.replica.proofs.LimitLaws.{step_well_formed}
 use Rattle.replica.specs.Reads.{read}
 use Rattle.layout.specs.Image.{encode, image_of, good_image}
-use Rattle.layout.specs.Main.{at_most, good_formed, empty_length}
+use Rattle.layout.proofs.MainFacts.{at_most, good_formed, empty_length}
 use Rattle.results.specs.declared.Written.{Written}
 use Rattle.results.specs.Call.{Call, number_of, answered, answer_of, Meets}
-use Rattle.results.specs.Laws.{Orderly, done_exactly}
+use Rattle.results.specs.Laws.{Orderly}
+use Rattle.results.proofs.Laws.{done_exactly}
 use Rattle.operations.specs.declared.Op.TheVariants.{Add, Remove}
 use Rattle.operations.specs.Calls.{operated, unfit_arguments, apply_call, reset_call}
 use Rattle.merging.specs.Merge.{merge_call}

@@ -12,8 +12,9 @@ use Rattle.replica.specs.Reads.{contains}
 use Rattle.replica.specs.Limits.{full}
 use Rattle.layout.specs.Clock.{encode_clock}
 use Rattle.layout.specs.Image.{image_of, good_image}
-use Rattle.layout.specs.Formed.{Formed, EntryFine, formed_from}
-use Rattle.layout.specs.Main.{good_formed}
+use Rattle.layout.specs.Formed.{Formed, EntryFine}
+use Rattle.layout.proofs.FormedFacts.{formed_from}
+use Rattle.layout.proofs.MainFacts.{good_formed}
 use Rattle.image.specs.Image.{clock_call}
 use Rattle.reading.specs.Calls.{contains_call, read_answer}
 use Rattle.replies.specs.Reply.{fitted}

@@ -12,7 +12,8 @@ use Rattle.dots.specs.declared.Dot.{Dot}
 use Rattle.dots.specs.Dot.{no_dot, actor_of}
 use Rattle.dots.specs.Clock.{Clock}
 use Rattle.layout.specs.Image.{contents}
-use Rattle.layout.specs.Fields.{u32_at, le16, le32, le64, length_le32, length_le64}
+use Rattle.layout.specs.Fields.{u32_at, le16, le32, le64}
+use Rattle.layout.proofs.FieldsFacts.{length_le32, length_le64}
 use Rattle.layout.specs.Lists.{list_at, bytes_of}
 use Rattle.layout.specs.Clock.{dot_at, dots_at, encode_dot_in, encode_dots, encode_clock, encode_clock_in}
 use Rattle.layout.specs.Rows.{encode_row, encode_row_in}

@@ -20,23 +20,25 @@ use Rattle.dots.specs.Rising.{true_from, both_left, both_right}
 use Rattle.dots.specs.ClockLaws.{dot_proper}
 use Rattle.clocks.specs.VClock.{dots_of, vclock, dots_vclock}
 use Rattle.replica.specs.Replica.{Entry, Replica}
-use Rattle.replica.specs.Kills.{kills_of, spared_number}
+use Rattle.replica.specs.Kills.{kills_of}
+use Rattle.replica.proofs.KillsFacts.{spared_number}
 use Rattle.layout.specs.Fields.{u32_at}
 use Rattle.layout.specs.Lists.{list_at, starts_at}
 use Rattle.layout.specs.Clock.{clock_at, clock_end}
 use Rattle.layout.specs.Rows.{row_at, row_in, row_end, rows_at, places_at, wait_in, wait_at_place, wait_end, waits_at, wait_places_at, waits_end_at, members_at}
 use Rattle.layout.specs.Image.{image_in, image_of, good_image}
 use Rattle.layout.specs.Good.{good_clock, good_members, good_rows, good_waits, good_entry, good_contents, checks_in}
-use Rattle.layout.specs.Kit.{Stands, stands, named, clock_normal, place_row, place_good, first_wait, length_starts_at, length_clock_at, each_from}
-use Rattle.layout.specs.Form.{length_list_at}
-use Rattle.layout.specs.Checks.{rows_rise, members_rise, passed}
+use Rattle.layout.specs.Kit.{Stands}
+use Rattle.layout.proofs.KitFacts.{stands, named, clock_normal, place_row, place_good, first_wait, length_starts_at, length_clock_at, each_from}
+use Rattle.layout.proofs.Form.{length_list_at}
+use Rattle.layout.proofs.Checks.{rows_rise, members_rise, passed}
 use Rattle.scan.specs.Scan.{laid_rows}
 use Rattle.scan.proofs.Tables.{first_laid}
 use Rattle.kills.specs.Lines.{top_line, kill_table, members_of, wait_read, waits_of}
 use Rattle.kills.specs.Laws.{Ordered, top_above, kill_numbers}
 use Rattle.kills.proofs.Steps.{taken}
 use Rattle.image.specs.Fits.{within, fits, fit_all, EachInside}
-use Rattle.layout.specs.Main.{checked}
+use Rattle.layout.proofs.MainFacts.{checked}
 use Rattle.image.specs.declared.Image.{Image}
 use Rattle.image.specs.Image.{image_of_bytes, check_image, laid_parts_tests, laid_parts, parts_image, no_image}
 use Rattle.image.proofs.Steps.{contents_few}

@@ -19,7 +19,7 @@ use Rattle.dots.specs.Rising.{both_left, both_right}
 use Rattle.clocks.proofs.Steps.{ahead, done}
 use Rattle.layout.specs.Fields.{u16_at, u32_at, u64_at}
 use Rattle.layout.specs.Clock.{dot_in, dot_at, dots_at, clock_at}
-use Rattle.layout.specs.Form.{length_list_at}
+use Rattle.layout.proofs.Form.{length_list_at}
 use Rattle.layout.specs.Good.{good_contents_in, good_contents}
 use Rattle.fields.proofs.Steps.{list_step, list_end}
 use Rattle.image.specs.Fits.{within, met_of, fits, line_for, fit_all}

@@ -18,7 +18,7 @@ use Rattle.layout.specs.Clock.{clock_in, clock_at, clock_end, clock_end_in}
 use Rattle.layout.specs.Rows.{row_end, places_at, rows_end_at, wait_places_at, waits_end_at}
 use Rattle.layout.specs.Image.{image_in}
 use Rattle.layout.specs.Good.{good_clock, good_waits, good_contents}
-use Rattle.layout.specs.Kit.{stands}
+use Rattle.layout.proofs.KitFacts.{stands}
 use Rattle.fields.specs.Read.{clock_read}
 use Rattle.scan.specs.declared.Table.{Table}
 use Rattle.scan.specs.declared.Waits.{Waits}

@@ -9,7 +9,7 @@ use Rattle.tables.specs.Ascending.{before, ascending}
 use Rattle.replica.specs.Limits.{full}
 use Rattle.results.specs.declared.Written.{Written}
 use Rattle.results.specs.Call.{Meets}
-use Rattle.results.specs.Laws.{granted_writes}
+use Rattle.results.proofs.Laws.{granted_writes}
 use Rattle.merging.specs.Merge.{merge_call}
 
 module _ (a b out after : List ℕ) (w : Written) (meets : Meets full (merge_call a b) out w after) (done : w.no ≡ 0) where

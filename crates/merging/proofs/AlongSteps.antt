@@ -12,7 +12,7 @@ use Rattle.dots.specs.ClockLaws.{covers_le}
 use Rattle.replica.specs.Limits.{full}
 use Rattle.layout.specs.Image.{image_of, good_image}
 use Rattle.layout.specs.Formed.{EntryFine}
-use Rattle.layout.specs.Checks.{passed}
+use Rattle.layout.proofs.Checks.{passed}
 use Rattle.changing.specs.Kept.{Along, met_whole}
 use Rattle.changing.specs.Brought.{brought}
 use Rattle.merging.specs.Rowing.{Goes}

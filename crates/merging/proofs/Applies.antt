@@ -29,18 +29,20 @@ use Rattle.clocks.specs.Calls.{Compared, comparison_says, compare_call, crowded,
 use Rattle.replica.specs.Replica.{Entry, Wait, Replica, member_sets}
 use Rattle.replica.specs.Rules.{set_of, settle, add, remove}
 use Rattle.replica.specs.Limits.{full, limits_of, broken, well_formed}
-use Rattle.replica.specs.WellFormed.{sound, fine_sound}
-use Rattle.replica.specs.Listed.{set_normal}
-use Rattle.replica.specs.AddLaws.{add_seen}
-use Rattle.replica.specs.RemoveLaws.{removed, remove_empty}
+use Rattle.replica.specs.WellFormed.{sound}
+use Rattle.replica.proofs.WellFormedFacts.{fine_sound}
+use Rattle.replica.proofs.ListedFacts.{set_normal}
+use Rattle.replica.proofs.AddLaws.{add_seen}
+use Rattle.replica.proofs.RemoveLaws.{removed, remove_empty}
 use Rattle.replica.specs.History.{Add, Remove, Apply, apply, step}
-use Rattle.replica.specs.LimitLaws.{fits, step_well_formed}
+use Rattle.replica.specs.LimitLaws.{fits}
+use Rattle.replica.proofs.LimitLaws.{step_well_formed}
 use Rattle.layout.specs.Lists.{list_at}
-use Rattle.layout.specs.Form.{length_list_at}
+use Rattle.layout.proofs.Form.{length_list_at}
 use Rattle.layout.specs.Rows.{waits_at, wait_at_place, wait_end}
 use Rattle.layout.specs.Image.{image_in, image_of, good_image, encode, waits_start_at, waits_count}
-use Rattle.layout.specs.Checks.{passed}
-use Rattle.layout.specs.Main.{good_formed}
+use Rattle.layout.proofs.Checks.{passed}
+use Rattle.layout.proofs.MainFacts.{good_formed}
 use Rattle.changing.specs.Kept.{Along, kept_entries}
 use Rattle.changing.specs.KeptWaits.{kept_waits}
 use Rattle.changing.specs.Brought.{remove_kept, add_kept}
@@ -49,7 +51,7 @@ use Rattle.results.specs.declared.Written.{Written}
 use Rattle.results.specs.declared.Draft.{Draft}
 use Rattle.results.specs.Call.{finish_of, number_of, answered, answer_of, output_of, Meets}
 use Rattle.results.specs.Finish.{start_of, Finished}
-use Rattle.results.specs.FinishLaws.{finish_meets}
+use Rattle.results.proofs.FinishLaws.{finish_meets}
 use Rattle.image.specs.declared.Image.{Image}
 use Rattle.image.specs.Image.{image_of_bytes, check_image}
 use Rattle.image.proofs.Link.{image_good}

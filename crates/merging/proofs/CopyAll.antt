@@ -15,16 +15,16 @@ use Rattle.clocks.specs.VClock.{dots_of}
 use Rattle.replica.specs.Replica.{Wait}
 use Rattle.replica.specs.Rules.{remove}
 use Rattle.replica.specs.Limits.{full}
-use Rattle.replica.specs.WellFormed.{fine_sound}
+use Rattle.replica.proofs.WellFormedFacts.{fine_sound}
 use Rattle.layout.specs.Fields.{Bytes}
 use Rattle.layout.specs.Lists.{list_at}
 use Rattle.layout.specs.Clock.{narrow}
 use Rattle.layout.specs.Rows.{wait_at_place, waits_at, wait_end, encode_waits}
 use Rattle.layout.specs.Image.{image_in, image_of, good_image, waits_start_at, waits_count}
-use Rattle.layout.specs.Form.{length_list_at, span_list, stands_list}
+use Rattle.layout.proofs.Form.{length_list_at, span_list, stands_list}
 use Rattle.layout.specs.Formed.{WaitFine}
-use Rattle.layout.specs.Parts.{wait_form, wait_laws}
-use Rattle.layout.specs.Checks.{passed}
+use Rattle.layout.proofs.Parts.{wait_form, wait_laws}
+use Rattle.layout.proofs.Checks.{passed}
 use Rattle.changing.specs.KeptWaits.{kept_waits}
 use Rattle.changing.specs.Waits.{remove_waits}
 use Rattle.merging.specs.Waiting.{most_named, WroteWaits}

@@ -6,12 +6,12 @@ use native.Mathlib.Omega.{arith}
 use lib.ListN.{length, take, drop, length-append}
 use lib.Seq.{slice, take-add, drop_at, length-take-le}
 use Rattle.layout.specs.Fields.{Bytes, u32_at, le32}
-use Rattle.layout.specs.Held.{Holds, holds_left, holds_right}
+use Rattle.layout.proofs.Held.{Holds, holds_left, holds_right}
 use Rattle.layout.specs.Lists.{list_at}
 use Rattle.layout.specs.Clock.{clock_at, clock_end, encode_clock}
 use Rattle.layout.specs.Rows.{members_at, encode_members, wait_in, wait_end, wait_at_place, encode_wait, encode_wait_in}
-use Rattle.layout.specs.Kit.{part_is}
-use Rattle.layout.specs.Parts.{clock_laws, wait_laws}
+use Rattle.layout.proofs.KitFacts.{part_is}
+use Rattle.layout.proofs.Parts.{clock_laws, wait_laws}
 
 -- a part of the bytes that holds e is e
 pub copied_is : (s : List ℕ) (p end : ℕ) (e : List ℕ) → Holds s p e → p ≤ length s → end ≡ p + length e → slice p end s ≡ e

@@ -13,7 +13,8 @@ use Rattle.tables.specs.Zip.{said, past}
 use Rattle.dots.specs.declared.Dot.{Dot}
 use Rattle.dots.specs.Dot.{dots, dot?}
 use Rattle.dots.specs.Clock.{Clock}
-use Rattle.layout.specs.Fields.{u32_at, u64_at, le32, le64, length_le32, length_le64}
+use Rattle.layout.specs.Fields.{u32_at, u64_at, le32, le64}
+use Rattle.layout.proofs.FieldsFacts.{length_le32, length_le64}
 use Rattle.layout.specs.Lists.{bytes_of}
 use Rattle.layout.specs.Clock.{narrow, dot_in, dot_end_in, dot_at, dots_at, encode_dot, encode_dots, encode_dot_in}
 use Rattle.merging.specs.declared.entries.Places.{Places}

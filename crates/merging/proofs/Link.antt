@@ -16,13 +16,13 @@ use Rattle.layout.specs.Lists.{list_at, end_after}
 use Rattle.layout.specs.Clock.{narrow}
 use Rattle.layout.specs.Rows.{waits_at, waits_end_at}
 use Rattle.layout.specs.Image.{rows_from, waits_from, length_of, image_in, image_of, good_image, entries_start, entries_count, waits_start_at, waits_count}
-use Rattle.layout.specs.Form.{span_list}
+use Rattle.layout.proofs.Form.{span_list}
 use Rattle.layout.specs.Formed.{WaitFine}
-use Rattle.layout.specs.Parts.{sound_narrow, row_form, wait_form, row_laws, wait_laws, faithful_clock}
-use Rattle.layout.specs.Kit.{stands}
-use Rattle.layout.specs.Checks.{passed, rows_rise, waits_rise}
-use Rattle.layout.specs.Round.{length_encode}
-use Rattle.layout.specs.Main.{at_most, good_formed}
+use Rattle.layout.proofs.Parts.{sound_narrow, row_form, wait_form, row_laws, wait_laws, faithful_clock}
+use Rattle.layout.proofs.KitFacts.{stands}
+use Rattle.layout.proofs.Checks.{passed, rows_rise, waits_rise}
+use Rattle.layout.proofs.Round.{length_encode}
+use Rattle.layout.proofs.MainFacts.{at_most, good_formed}
 use Rattle.image.specs.declared.Image.{Image}
 use Rattle.image.specs.Image.{image_of_bytes, check_image}
 use Rattle.image.proofs.Link.{stood}

@@ -20,18 +20,19 @@ use Rattle.clocks.specs.Calls.{crowded, clock_answer, merge_call as clockMerge}
 use Rattle.replica.specs.Rules.{settle, merge}
 use Rattle.replica.specs.Limits.{full, limits_of, broken, well_formed}
 use Rattle.replica.specs.History.{MergeWith, step}
-use Rattle.replica.specs.LimitLaws.{fits, step_well_formed}
+use Rattle.replica.specs.LimitLaws.{fits}
+use Rattle.replica.proofs.LimitLaws.{step_well_formed}
 use Rattle.layout.specs.Rows.{waits_at}
 use Rattle.layout.specs.Image.{image_in, image_of, good_image, waits_start_at, waits_count}
-use Rattle.layout.specs.Checks.{passed}
-use Rattle.layout.specs.Main.{good_formed}
+use Rattle.layout.proofs.Checks.{passed}
+use Rattle.layout.proofs.MainFacts.{good_formed}
 use Rattle.changing.specs.Kept.{kept_entries, entries_kept}
 use Rattle.changing.specs.KeptWaits.{kept_waits, waits_kept}
 use Rattle.results.specs.declared.Written.{Written}
 use Rattle.results.specs.declared.Draft.{Draft}
 use Rattle.results.specs.Call.{finish_of, number_of, answered, Meets}
 use Rattle.results.specs.Finish.{start_of, Finished}
-use Rattle.results.specs.FinishLaws.{Drafted, finish_meets}
+use Rattle.results.proofs.FinishLaws.{Drafted, finish_meets}
 use Rattle.image.specs.declared.Image.{Image}
 use Rattle.image.specs.Image.{image_of_bytes, check_image}
 use Rattle.image.proofs.Link.{image_good}

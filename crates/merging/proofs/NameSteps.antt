@@ -12,7 +12,8 @@ use Rattle.tables.specs.Stores.{sets_append}
 use Rattle.tables.specs.Table.{pick}
 use Rattle.tables.specs.Zip.{zip_nil, said, past, Rise, rise_past, zip_step, by_lt}
 use Rattle.replica.specs.Replica.{member_rows, member_sets}
-use Rattle.layout.specs.Fields.{u32_at, le32, length_le32}
+use Rattle.layout.specs.Fields.{u32_at, le32}
+use Rattle.layout.proofs.FieldsFacts.{length_le32}
 use Rattle.layout.specs.Lists.{list_at, bytes_of}
 use Rattle.layout.specs.Rows.{member_end, members_at, encode_members}
 use Rattle.merging.specs.declared.waits.Names.{Names}

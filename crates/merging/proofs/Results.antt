@@ -17,14 +17,14 @@ use Rattle.replica.specs.Limits.{full, broken, well_formed}
 use Rattle.layout.specs.Clock.{narrow}
 use Rattle.layout.specs.Rows.{encode_rows, encode_waits}
 use Rattle.layout.specs.Image.{rows_from, waits_from, length_of}
-use Rattle.layout.specs.Kit.{length_encode_clock}
-use Rattle.layout.specs.Round.{length_encode}
-use Rattle.layout.specs.Main.{at_most}
+use Rattle.layout.proofs.KitFacts.{length_encode_clock}
+use Rattle.layout.proofs.Round.{length_encode}
+use Rattle.layout.proofs.MainFacts.{at_most}
 use Rattle.results.specs.declared.Written.{Written}
 use Rattle.results.specs.declared.Draft.{Draft}
 use Rattle.results.specs.Call.{Call, number_of, answered, answer_of, output_of, Meets}
 use Rattle.results.specs.Finish.{start_of}
-use Rattle.results.specs.FinishLaws.{Drafted}
+use Rattle.results.proofs.FinishLaws.{Drafted}
 use Rattle.merging.specs.Waiting.{most_named}
 use Rattle.merging.specs.Draft.{DraftOf}
 

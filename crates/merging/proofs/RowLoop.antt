@@ -18,7 +18,7 @@ use Rattle.dots.specs.Clock.{Clock}
 use Rattle.replica.specs.Replica.{Entry, Replica, entry?, entry_rows, entries}
 use Rattle.layout.specs.Fields.{u32_at}
 use Rattle.layout.specs.Lists.{list_at, bytes_of}
-use Rattle.layout.specs.Form.{length_list_at}
+use Rattle.layout.proofs.Form.{length_list_at}
 use Rattle.layout.specs.Rows.{row_in, row_at, row_end, rows_at, rows_end_at, encode_row, encode_rows}
 use Rattle.merging.specs.declared.entries.Rows.{Rows}
 use Rattle.merging.specs.Ahead.{key_ahead, front_ahead, wrote, length_cons, bytes_cons}

@@ -14,7 +14,8 @@ use Rattle.tables.specs.Walk.{walked}
 use Rattle.tables.specs.Zip.{said, past, by_lt}
 use Rattle.dots.specs.Clock.{Clock}
 use Rattle.replica.specs.Replica.{Entry, entry?, entry_rows}
-use Rattle.layout.specs.Fields.{u32_at, le32, length_le32}
+use Rattle.layout.specs.Fields.{u32_at, le32}
+use Rattle.layout.proofs.FieldsFacts.{length_le32}
 use Rattle.layout.specs.Lists.{list_at, end_after, bytes_of}
 use Rattle.layout.specs.Clock.{dots_at, encode_dots, clock_in, clock_end_in, encode_clock_in}
 use Rattle.layout.specs.Rows.{row_in, row_end_in, row_at, row_end, rows_at, rows_end_at, encode_rows, encode_row_in}

@@ -16,16 +16,17 @@ use Rattle.dots.specs.Clock.{Clock}
 use Rattle.clocks.specs.declared.VClock.{VClock}
 use Rattle.clocks.specs.VClock.{dots_of}
 use Rattle.replica.specs.Replica.{Entry, Wait, Replica, entry_rows}
-use Rattle.layout.specs.Fields.{u32_at, le32, length_le32}
+use Rattle.layout.specs.Fields.{u32_at, le32}
+use Rattle.layout.proofs.FieldsFacts.{length_le32}
 use Rattle.layout.specs.Fits.{FitsClock, FitsRow, FitMembers, Fits}
 use Rattle.layout.specs.Lists.{list_at, starts_at, bytes_of}
 use Rattle.layout.specs.Clock.{narrow, clock_in, clock_end, encode_clock_in, encode_clock}
 use Rattle.layout.specs.Rows.{row_in, row_at, row_end, rows_at, encode_rows, encode_wait, encode_waits, wait_in, wait_at_place, member_end}
 use Rattle.layout.specs.Image.{contents, contents_of, rows_from, waits_from, length_of, encode_in, encode, image_in}
-use Rattle.layout.specs.Parts.{row_laws}
-use Rattle.layout.specs.Form.{length_list_at}
-use Rattle.layout.specs.Kit.{length_clock_at, length_encode_clock, length_encode_row, length_encode_wait}
-use Rattle.layout.specs.Round.{length_contents, length_encode}
+use Rattle.layout.proofs.Parts.{row_laws}
+use Rattle.layout.proofs.Form.{length_list_at}
+use Rattle.layout.proofs.KitFacts.{length_clock_at, length_encode_clock, length_encode_row, length_encode_wait}
+use Rattle.layout.proofs.Round.{length_contents, length_encode}
 use Rattle.fields.specs.Read.{clock_read, Put}
 use Rattle.kills.specs.Lines.{members_of, wait_read, waits_of}
 use Rattle.lists.specs.declared.Members.{Members}

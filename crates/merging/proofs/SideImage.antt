@@ -16,10 +16,10 @@ use Rattle.layout.specs.Fits.{FitsClock, FitMembers, Fits}
 use Rattle.layout.specs.Clock.{narrow}
 use Rattle.layout.specs.Rows.{row_at, row_end, rows_end_at, encode_rows, wait_at_place, wait_end, waits_end_at}
 use Rattle.layout.specs.Image.{rows_from, waits_from, length_of, image_in, image_of, encode, entries_start, entries_count, waits_start_at, waits_count}
-use Rattle.layout.specs.Form.{length_list_at, span_list}
-use Rattle.layout.specs.Kit.{length_clock_at}
-use Rattle.layout.specs.Parts.{sound_narrow, row_form, row_laws, faithful_clock}
-use Rattle.layout.specs.Round.{Readable, length_encode, read_back, readable_encode}
+use Rattle.layout.proofs.Form.{length_list_at, span_list}
+use Rattle.layout.proofs.KitFacts.{length_clock_at}
+use Rattle.layout.proofs.Parts.{sound_narrow, row_form, row_laws, faithful_clock}
+use Rattle.layout.proofs.Round.{Readable, length_encode, read_back, readable_encode}
 use Rattle.kills.specs.Lines.{members_of, waits_of}
 use Rattle.kills.specs.Laws.{Ordered}
 use Rattle.lists.proofs.Members as Members

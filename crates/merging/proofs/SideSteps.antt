@@ -13,12 +13,13 @@ use Rattle.dots.specs.Clock.{Clock}
 use Rattle.clocks.specs.declared.VClock.{VClock}
 use Rattle.clocks.specs.VClock.{dots_of}
 use Rattle.replica.specs.Replica.{Entry}
-use Rattle.layout.specs.Fields.{le32, le64, length_le32}
+use Rattle.layout.specs.Fields.{le32, le64}
+use Rattle.layout.proofs.FieldsFacts.{length_le32}
 use Rattle.layout.specs.Lists.{starts_at, bytes_of}
 use Rattle.layout.specs.Clock.{encode_dot_in, encode_clock_in}
 use Rattle.layout.specs.Rows.{encode_row_in, encode_row, encode_rows}
-use Rattle.layout.specs.Form.{steady_end}
-use Rattle.layout.specs.Kit.{starts_next, length_encode_row}
+use Rattle.layout.proofs.Form.{steady_end}
+use Rattle.layout.proofs.KitFacts.{starts_next, length_encode_row}
 use Rattle.changing.specs.Brought.{brought}
 use Rattle.merging.specs.Side.{places_of}
 

@@ -16,7 +16,7 @@ use Rattle.layout.specs.Fields.{u32_at}
 use Rattle.layout.specs.Clock.{dots_at, clock_in}
 use Rattle.layout.specs.Rows.{row_at, row_end, rows_at}
 use Rattle.layout.specs.Image.{image_in, image_of, entries_start, entries_count}
-use Rattle.layout.specs.Form.{length_list_at}
+use Rattle.layout.proofs.Form.{length_list_at}
 use Rattle.kills.specs.Lines.{kill_table, members_of, waits_of}
 use Rattle.kills.specs.Laws.{kill_numbers}
 use Rattle.image.specs.declared.Image.{Image}

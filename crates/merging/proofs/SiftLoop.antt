@@ -20,8 +20,8 @@ use Rattle.layout.specs.Fields.{Bytes, u32_at}
 use Rattle.layout.specs.Lists.{list_at, bytes_of}
 use Rattle.layout.specs.Clock.{narrow, dot_end_in, dot_at, dots_at, clock_in}
 use Rattle.layout.specs.Rows.{row_in, row_at, row_end, rows_at, encode_row, encode_rows}
-use Rattle.layout.specs.Form.{length_list_at}
-use Rattle.layout.specs.Parts.{row_laws}
+use Rattle.layout.proofs.Form.{length_list_at}
+use Rattle.layout.proofs.Parts.{row_laws}
 use Rattle.merging.specs.declared.entries.Rows.{Rows}
 use Rattle.changing.specs.Kept.{keep_of, line_of, kept_clock, kept_entries}
 use Rattle.merging.specs.Rowing.{WroteRows}

@@ -21,7 +21,7 @@ use Rattle.layout.specs.Fields.{Bytes, u32_at}
 use Rattle.layout.specs.Lists.{list_at, end_after}
 use Rattle.layout.specs.Clock.{narrow, dot_end_in, dot_at, dots_at, encode_dots, clock_in}
 use Rattle.layout.specs.Rows.{row_in, row_end, rows_at, rows_end_at, encode_row, encode_rows}
-use Rattle.layout.specs.Form.{length_list_at}
+use Rattle.layout.proofs.Form.{length_list_at}
 use Rattle.merging.specs.declared.entries.Places.{Places}
 use Rattle.merging.specs.declared.entries.Rows.{Rows}
 use Rattle.changing.specs.Kept.{met_along}

@@ -15,7 +15,7 @@ use Rattle.dots.specs.Clock.{Clock}
 use Rattle.dots.specs.Covering.{cover_is}
 use Rattle.replica.specs.Replica.{Wait, waits, member_sets}
 use Rattle.layout.specs.Lists.{list_at, bytes_of}
-use Rattle.layout.specs.Form.{length_list_at}
+use Rattle.layout.proofs.Form.{length_list_at}
 use Rattle.layout.specs.Rows.{waits_at, waits_end_at, wait_end, wait_at_place, encode_wait, encode_waits}
 use Rattle.merging.specs.declared.waits.Waits.{Waits}
 use Rattle.merging.specs.Ahead.{wrote, length_cons, bytes_cons}

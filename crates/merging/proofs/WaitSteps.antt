@@ -15,9 +15,10 @@ use Rattle.tables.specs.Zip.{tail, Rise, turn_of, left_after, right_after}
 use Rattle.dots.specs.Clock.{Clock}
 use Rattle.dots.specs.Covering.{cover_of}
 use Rattle.replica.specs.Replica.{Wait, waits, member_rows, member_sets}
-use Rattle.layout.specs.Fields.{Bytes, u32_at, le32, length_le32}
+use Rattle.layout.specs.Fields.{Bytes, u32_at, le32}
+use Rattle.layout.proofs.FieldsFacts.{length_le32}
 use Rattle.layout.specs.Lists.{list_at, end_after, bytes_of}
-use Rattle.layout.specs.Form.{length_list_at}
+use Rattle.layout.proofs.Form.{length_list_at}
 use Rattle.layout.specs.Clock.{dot_at, dots_at, clock_in, clock_end_in, clock_at, clock_end, encode_clock, encode_clock_in}
 use Rattle.layout.specs.Rows.{member_end, members_at, encode_members, wait_in, wait_end_in, waits_at, waits_end_at, wait_end, wait_at_place, encode_waits, encode_wait_in}
 use Rattle.merging.specs.declared.waits.Part.{Part}

@@ -18,8 +18,8 @@ use Rattle.dots.specs.Clock.{Clock}
 use Rattle.layout.specs.Fields.{Bytes, u32_at, u64_at}
 use Rattle.layout.specs.Lists.{list_at}
 use Rattle.layout.specs.Clock.{narrow, dot_in, dot_end_in, dot_at, dots_at, encode_dots}
-use Rattle.layout.specs.Form.{length_list_at, stands_list, steady_end}
-use Rattle.layout.specs.Parts.{sound_narrow, dot_form, faithful_dot}
+use Rattle.layout.proofs.Form.{length_list_at, stands_list, steady_end}
+use Rattle.layout.proofs.Parts.{sound_narrow, dot_form, faithful_dot}
 use Rattle.changing.specs.Kept.{keep_of, met_along}
 use Rattle.merging.specs.Ahead.{Met}
 use Rattle.merging.specs.Keeping.{KeptDots, lines_from, kept_along, Above, Stays}

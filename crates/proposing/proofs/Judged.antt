@@ -17,7 +17,7 @@ use Rattle.clocks.specs.declared.OpValidation.{OpValidation as DotValidation}
 use Rattle.clocks.specs.VClock.{vclock, normalised, dots_vclock, vclock_normalised}
 use Rattle.clocks.specs.Calls.{validation_says as dotSays, validate_op_call as dot_call}
 use Rattle.layout.specs.Image.{image_of, good_image}
-use Rattle.layout.specs.Checks.{passed}
+use Rattle.layout.proofs.Checks.{passed}
 use Rattle.image.specs.declared.Image.{Image}
 use Rattle.checked.proofs.Known.{Known}
 use Rattle.operations.specs.declared.Op.{Op}

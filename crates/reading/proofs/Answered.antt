@@ -20,7 +20,7 @@ use Rattle.layout.specs.Fields.{u32_at}
 use Rattle.layout.specs.Clock.{clock_at}
 use Rattle.layout.specs.Rows.{row_in, row_at, encode_members}
 use Rattle.layout.specs.Image.{image_of, good_image}
-use Rattle.layout.specs.Kit.{length_encode_members}
+use Rattle.layout.proofs.KitFacts.{length_encode_members}
 use Rattle.image.specs.declared.Image.{Image}
 use Rattle.checked.proofs.Known.{Known}
 use Rattle.reading.specs.Seat.{seat_of}

@@ -10,7 +10,8 @@ use Rattle.tables.specs.Stores.{sets_append}
 use Rattle.tables.specs.Refusal.{first_of}
 use Rattle.replica.specs.Limits.{full, limits_of}
 use Rattle.clocks.proofs.Steps.{ahead, done}
-use Rattle.layout.specs.Fields.{u32_at, le16, le32, length_le32}
+use Rattle.layout.specs.Fields.{u32_at, le16, le32}
+use Rattle.layout.proofs.FieldsFacts.{length_le32}
 use Rattle.layout.specs.Lists.{bytes_of}
 use Rattle.layout.specs.Clock.{encode_clock_in}
 use Rattle.layout.specs.Rows.{encode_members}

@@ -11,11 +11,3 @@ use Rattle.replica.specs.Rules.{set_of}
 -- the member is in the list
 abbrev pub listed : List ℕ → ℕ → Bool
 listed ms m = has compare m ms
-
-pub set_listed : (ms : List ℕ) (m : ℕ) → get member_sets (set_of ms) m ≡ listed ms m
-unfolding set_of
-set_listed ms m = has_union compare nat_order m ms [] ∙ or-false (listed ms m)
-
-pub set_normal : (ms : List ℕ) → Normal member_sets (set_of ms)
-unfolding set_of
-set_normal ms = record { asc = rw (map_id (set_of ms)) (asc_union compare nat_order ms [] tt); proper = all_any (Proper member_sets) (set_of ms) (λ m. refl) }

@@ -12,7 +12,7 @@ use Rattle.clocks.specs.VClock.{dots_of, vclock}
 use Rattle.fields.specs.Read.{clock_read}
 use Rattle.layout.specs.Clock.{clock_end, clock_end_in, encode_clock}
 use Rattle.layout.specs.Good.{good_clock}
-use Rattle.layout.specs.Kit.{length_encode_clock}
+use Rattle.layout.proofs.KitFacts.{length_encode_clock}
 use Rattle.scan.specs.Scan.{clock_ends}
 use Rattle.image.proofs.Whole.{read_good}
 use Rattle.replies.specs.Lent.{good_lent, unfit_clock, clock_lent}

@@ -13,7 +13,8 @@ use Rattle.tables.specs.Stores.{sets_append}
 use Rattle.dots.specs.declared.DotRange.{DotRange}
 use Rattle.dots.specs.Dot.{actor_of}
 use Rattle.replica.specs.Validate.{Spent}
-use Rattle.layout.specs.Fields.{le32, le64, length_le32, length_le64}
+use Rattle.layout.specs.Fields.{le32, le64}
+use Rattle.layout.proofs.FieldsFacts.{length_le32, length_le64}
 use Rattle.layout.specs.Clock.{encode_dot_in}
 use Rattle.operations.specs.declared.OpValidation.{OpValidation}
 use Rattle.operations.specs.declared.OpValidation.TheVariants.{Gap}

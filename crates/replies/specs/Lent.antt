@@ -7,7 +7,7 @@ use Rattle.clocks.specs.declared.VClock.{VClock}
 use Rattle.clocks.specs.VClock.{dots_of, vclock, normalised, dots_vclock, vclock_normalised}
 use Rattle.layout.specs.Clock.{clock_at, clock_end}
 use Rattle.layout.specs.Good.{good_clock}
-use Rattle.layout.specs.Kit.{stands, clock_normal, length_clock_at}
+use Rattle.layout.proofs.KitFacts.{stands, clock_normal, length_clock_at}
 
 -- a normalised clock of at most 16 actors: "a lent clock is exactly 4 + 12 * count bytes"
 unfoldable pub good_lent : List ℕ → Bool

@@ -17,8 +17,8 @@ use Rattle.clocks.specs.declared.VClock.{VClock}
 use Rattle.clocks.specs.VClock.{dots_of}
 use Rattle.layout.specs.Image.{contents}
 use Rattle.layout.specs.Clock.{encode_clock}
-use Rattle.layout.specs.Round.{length_contents}
-use Rattle.layout.specs.Kit.{length_encode_clock}
+use Rattle.layout.proofs.Round.{length_contents}
+use Rattle.layout.proofs.KitFacts.{length_encode_clock}
 use Rattle.fields.proofs.Steps.{sets_past}
 use Rattle.results.specs.declared.Written.{Written}
 use Rattle.results.specs.declared.Draft.{Draft}

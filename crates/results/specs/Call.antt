@@ -42,7 +42,3 @@ output_of l c out = pick (eqb (number_of l c (length out)) 0) (sets out 0 (encod
 pub record Meets (l : Limits) (c : Call) (before : List ℕ) (r : Written) (after : List ℕ) : Type 0 where
   pub answer : r ≡ answer_of l c (length before)
   pub output : after ≡ output_of l c before
-
--- "any two answers it allows are equal"
-pub meets_once : (l : Limits) (c : Call) (before : List ℕ) (r s : Written) (x y : List ℕ) → Meets l c before r x → Meets l c before s y → (r ≡ s) × (x ≡ y)
-meets_once l c before r s x y p q = (p.answer ∙ sym q.answer, p.output ∙ sym q.output)

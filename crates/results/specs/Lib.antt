@@ -1,4 +1,3 @@
 pub mod Call
 pub mod Laws
 pub mod Finish
-pub mod FinishLaws

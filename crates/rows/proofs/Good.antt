@@ -13,7 +13,7 @@ use Rattle.layout.specs.Fields.{u32_at}
 use Rattle.layout.specs.Clock.{clock_in, clock_at, clock_end}
 use Rattle.layout.specs.Rows.{member_end, row_in, row_at, wait_in, wait_at_place}
 use Rattle.layout.specs.Good.{good_clock, good_members}
-use Rattle.layout.specs.Kit.{stands, named}
+use Rattle.layout.proofs.KitFacts.{stands, named}
 use Rattle.fields.specs.Read.{clock_read}
 use Rattle.fields.proofs.Steps.{length_list}
 use Rattle.rows.specs.declared.Row.{Row}

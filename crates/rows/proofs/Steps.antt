@@ -15,11 +15,12 @@ use Rattle.tables.specs.Zip.{by_lt}
 use Rattle.dots.specs.declared.Member.{Member}
 use Rattle.clocks.specs.declared.VClock.{VClock}
 use Rattle.clocks.specs.VClock.{dots_of, vclock}
-use Rattle.layout.specs.Fields.{u32_at, le32, length_le32}
+use Rattle.layout.specs.Fields.{u32_at, le32}
+use Rattle.layout.proofs.FieldsFacts.{length_le32}
 use Rattle.layout.specs.Lists.{list_at, bytes_of}
 use Rattle.layout.specs.Clock.{clock_end, clock_end_in, encode_clock}
 use Rattle.layout.specs.Rows.{members_at, member_end, encode_members, encode_wait, encode_wait_in}
-use Rattle.layout.specs.Kit.{length_encode_members}
+use Rattle.layout.proofs.KitFacts.{length_encode_members}
 use Rattle.fields.specs.Read.{clock_read, Put}
 use Rattle.fields.proofs.Steps.{list_step, list_end, u32_past, sets_past}
 use Rattle.rows.specs.declared.Row.{Row}

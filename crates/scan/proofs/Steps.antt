@@ -21,7 +21,7 @@ use Rattle.layout.specs.Fields.{u32_at, u64_at}
 use Rattle.layout.specs.Clock.{narrow, dot_in, dot_at, dots_at, clock_in, clock_at, clock_end, clock_end_in}
 use Rattle.layout.specs.Rows.{members_at, row_end, row_end_in, wait_end, wait_end_in}
 use Rattle.layout.specs.Good.{rising_members, good_members_in, good_members, good_clock_in, good_clock, chain, wait_tests}
-use Rattle.layout.specs.Kit.{stands}
+use Rattle.layout.proofs.KitFacts.{stands}
 use Rattle.fields.proofs.Steps.{list_step, list_end}
 use Rattle.scan.specs.Scan.{DotsIn, clock_ends, members_end, laid_tests, row_ends, wait_ends}
 

@@ -17,7 +17,7 @@ use Rattle.layout.specs.Lists.{starts_at, end_after, list_at}
 use Rattle.layout.specs.Clock.{narrow, clock_in, clock_at}
 use Rattle.layout.specs.Rows.{row_end, places_at, rows_end_at, wait_end, wait_places_at, waits_end_at}
 use Rattle.layout.specs.Good.{good_waits_in, good_waits, chain, wait_tests}
-use Rattle.layout.specs.Kit.{each_from, stands, starts_step, end_step, first_wait}
+use Rattle.layout.proofs.KitFacts.{each_from, stands, starts_step, end_step, first_wait}
 use Rattle.fields.proofs.Steps.{u32_past}
 use Rattle.scan.specs.Scan.{DotsIn, laid_tests, row_ends, laid_rows, wait_ends, rows_table, no_table, waits_table, no_waits}
 use Rattle.scan.proofs.Steps.{row_none, row_some, wait_none, wait_some}

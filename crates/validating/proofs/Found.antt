@@ -19,9 +19,9 @@ use Rattle.replica.specs.Validate.{Triple, reportable, with_theirs, triples, fir
 use Rattle.replica.specs.Limits.{full}
 use Rattle.layout.specs.Rows.{row_at, row_end, places_at}
 use Rattle.layout.specs.Image.{image_of, good_image, entries_start, entries_count}
-use Rattle.layout.specs.Kit.{stands, length_starts_at, place_good}
+use Rattle.layout.proofs.KitFacts.{stands, length_starts_at, place_good}
 use Rattle.layout.specs.Formed.{EntryFine}
-use Rattle.layout.specs.Checks.{passed}
+use Rattle.layout.proofs.Checks.{passed}
 use Rattle.image.specs.declared.Image.{Image}
 use Rattle.image.specs.Image.{image_of_bytes, check_image}
 use Rattle.image.proofs.Link.{image_good}

@@ -24,10 +24,11 @@ use Rattle.layout.specs.Fields.{u32_at}
 use Rattle.layout.specs.Clock.{dot_in, dot_end_in, dots_at, clock_in, clock_at, narrow}
 use Rattle.layout.specs.Rows.{row_in, row_at as entry_at}
 use Rattle.layout.specs.Image.{image_in, image_of}
-use Rattle.layout.specs.Form.{length_list_at}
-use Rattle.layout.specs.Kit.{Stands, stands}
+use Rattle.layout.proofs.Form.{length_list_at}
+use Rattle.layout.specs.Kit.{Stands}
+use Rattle.layout.proofs.KitFacts.{stands}
 use Rattle.layout.specs.Formed.{EntryFine}
-use Rattle.layout.specs.Checks.{passed}
+use Rattle.layout.proofs.Checks.{passed}
 use Rattle.kills.specs.Lines.{reach}
 use Rattle.kills.specs.Laws.{along_is}
 use Rattle.validating.specs.Search.{reportable, spotted, sights, key_of, keys_of, Listed, Keyed, Apart}

@@ -11,9 +11,9 @@ use Rattle.layout.specs.Clock.{clock_at, clock_end_in, encode_clock}
 use Rattle.layout.specs.Rows.{row_at, row_in, row_end, row_end_in, rows_at, rows_end_at}
 use Rattle.layout.specs.Image.{good_image, image_in, image_of, entries_start, entries_count, waits_start_at}
 use Rattle.layout.specs.Good.{good_rows}
-use Rattle.layout.specs.Kit.{part_is, first_row}
-use Rattle.layout.specs.Parts.{clock_laws}
-use Rattle.layout.specs.Checks.{passed}
+use Rattle.layout.proofs.KitFacts.{part_is, first_row}
+use Rattle.layout.proofs.Parts.{clock_laws}
+use Rattle.layout.proofs.Checks.{passed}
 use Rattle.walk.specs.declared.Hand.{Hand}
 use Rattle.walk.specs.declared.Hand.TheVariants.{One, Nothing}
 use Rattle.walk.specs.Walks.{end_at, start_at, hand_at, part_at, onward_at}

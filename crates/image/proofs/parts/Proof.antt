@@ -3,7 +3,7 @@ use Rattle.image.proofs.Steps.{contents_few}
 use Rattle.scan.specs.Scan.{rows_table, waits_table}
 use Rattle.scan.specs.declared.Waits.{Waits}
 use Rattle.scan.specs.declared.Table.{Table}
-use Rattle.layout.specs.Kit.{stands, clock_room}
+use Rattle.layout.proofs.KitFacts.{stands, clock_room}
 use Rattle.layout.specs.Fields.{u32_at}
 use lib.ListN.{length}
 use Prim.Native.Nat.{◌≤◌}

@@ -5,7 +5,8 @@ use lib.Seq.{sets}
 use Rattle.layout.specs.Fields.{le32}
 use lib.ListN.{length}
 use Prim.Native.Nat.{◌+◌}
-use Rattle.layout.specs.Fields.{le64, length_le32}
+use Rattle.layout.specs.Fields.{le64}
+use Rattle.layout.proofs.FieldsFacts.{length_le32}
 use Rattle.tables.specs.Stores.{sets_append}
 use borrow.Author.Tests.{leb-true}
 use native.Mathlib.Omega.{arith}

@@ -2,7 +2,7 @@ use Prim.Native.Nat.{◌-◌, ◌≤◌}
 use mathlib.Core.Path.{◌≡◌, refl}
 use native.Mathlib.Omega.{arith}
 use Rattle.layout.specs.Clock.{dots_at}
-use Rattle.layout.specs.Form.{length_list_at}
+use Rattle.layout.proofs.Form.{length_list_at}
 use Rattle.validating.specs.Search.{Keyed}
 use Rattle.validating.proofs.Steps.{listed_clock_at, dots_inside}
 use Rattle.validating.proofs.Keys.{lines_turn}

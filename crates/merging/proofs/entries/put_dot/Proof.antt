@@ -2,7 +2,7 @@ use native.Mathlib.Omega.{arith}
 use mathlib.Core.Path.{sym}
 use Rattle.tables.specs.Stores.{sets_append}
 use Rattle.layout.specs.Lists.{bytes_of}
-use Rattle.layout.specs.Fields.{length_le32}
+use Rattle.layout.proofs.FieldsFacts.{length_le32}
 use Rattle.merging.proofs.KeepSteps.{dot_none, dot_bytes}
 use borrow.Author.Rules.{rules}
 use Rattle.merging.proofs.entries.put_dot.Statement.{statement}

@@ -1,6 +1,6 @@
 use borrow.Author.Tests.{eq-eqb, ne_eqb}
 use Rattle.tables.specs.Stores.{sets_append}
-use Rattle.layout.specs.Fields.{length_le32}
+use Rattle.layout.proofs.FieldsFacts.{length_le32}
 use borrow.Author.Rules.{rules}
 use Rattle.merging.proofs.entries.put_head.Statement.{statement}
 use Rattle.merging.proofs.entries.put_head.Tie as tie

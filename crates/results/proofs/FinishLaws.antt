@@ -18,8 +18,8 @@ use Rattle.replica.specs.Limits.{full, limits_of, broken}
 use Rattle.layout.specs.Clock.{narrow, encode_clock}
 use Rattle.layout.specs.Rows.{encode_rows, encode_waits}
 use Rattle.layout.specs.Image.{contents, contents_of, rows_from, waits_from, length_of, encode_in, encode}
-use Rattle.layout.specs.Round.{length_encode}
-use Rattle.layout.specs.Kit.{length_encode_clock}
+use Rattle.layout.proofs.Round.{length_encode}
+use Rattle.layout.proofs.KitFacts.{length_encode_clock}
 use Rattle.results.specs.declared.Written.{Written}
 use Rattle.results.specs.declared.Draft.{Draft}
 use Rattle.results.specs.Call.{Call, finish_of, number_of, answered, answer_of, output_of, Meets}

@@ -8,15 +8,16 @@ use Rattle.std.proofs.Math.ListN.{length}
 use Rattle.tables.specs.Table.{alls_from, alls_to}
 use Rattle.dots.specs.Clock.{Clock}
 use Rattle.replica.specs.Replica.{Entry, Wait, Replica}
-use Rattle.layout.specs.Fields.{Bytes, le16, le32, length_le16, length_le32}
+use Rattle.layout.specs.Fields.{Bytes, le16, le32}
+use Rattle.layout.proofs.FieldsFacts.{length_le16, length_le32}
 use Rattle.layout.specs.Lists.{list_at, end_after, bytes_of}
 use Rattle.layout.specs.Clock.{Width, clock_in, clock_end_in, encode_clock_in}
 use Rattle.layout.specs.Rows.{row_in, row_end_in, encode_row_in, wait_in, wait_end_in, encode_wait_in}
 use Rattle.layout.specs.Image.{version, zero_field, total_length, entries_start, entries_count, waits_start_at, waits_count, contents, contents_of, rows_from, waits_from, length_of, encode_in, readable_in, image_in}
 use Rattle.layout.specs.Fits.{FitsIn}
-use Rattle.layout.specs.Held.{Holds, holds_join, holds_left, holds_right, holds_self, holds_all, holds_le16, reads_le16, bytes_le16, holds_le32, reads_le32, bytes_le32, bytes_append}
-use Rattle.layout.specs.Form.{length_list_at, span_list, stands_list, back_list, fits_list, bytes_list, few_list}
-use Rattle.layout.specs.Parts.{Sound, row_form, wait_form, faithful_clock, faithful_row, faithful_wait}
+use Rattle.layout.proofs.Held.{Holds, holds_join, holds_left, holds_right, holds_self, holds_all, holds_le16, reads_le16, bytes_le16, holds_le32, reads_le32, bytes_le32, bytes_append}
+use Rattle.layout.proofs.Form.{length_list_at, span_list, stands_list, back_list, fits_list, bytes_list, few_list}
+use Rattle.layout.proofs.Parts.{Sound, row_form, wait_form, faithful_clock, faithful_row, faithful_wait}
 
 -- ---- the contents
 

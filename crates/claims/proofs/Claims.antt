@@ -15,28 +15,37 @@ use Rattle.clocks.specs.VClock.{dots_of}
 use Rattle.replica.specs.Replica.{Replica, is_in, holds}
 use Rattle.replica.specs.Rules.{merge, settled}
 use Rattle.replica.specs.Listed.{listed}
-use Rattle.replica.specs.Limits.{full, limits_of, broken, broken_right, Within, well_formed, well_formed_from}
+use Rattle.replica.specs.Limits.{full, limits_of, broken, Within, well_formed}
+use Rattle.replica.proofs.LimitsFacts.{broken_right, well_formed_from}
 use Rattle.replica.specs.History.{apply, step}
 use Rattle.replica.specs.HistoryLaws.{fair}
-use Rattle.replica.specs.LimitLaws.{reset_number, remove_number, add_number}
+use Rattle.replica.proofs.LimitLaws.{reset_number, remove_number, add_number}
 use Rattle.replica.specs.Membership.{Kept}
 use Rattle.replica.specs.Merged.{Merged}
-use Rattle.replica.specs.MergeLaws.{merge_says, merge_members, merge_commutes, merge_associates, merge_itself}
-use Rattle.replica.specs.AddLaws.{Added, add_seen, added}
-use Rattle.replica.specs.RemoveLaws.{Removed, removed}
-use Rattle.replica.specs.ResetLaws.{WasReset, was_reset}
+use Rattle.replica.proofs.MergeLaws.{merge_says, merge_members, merge_commutes, merge_associates, merge_itself}
+use Rattle.replica.specs.AddLaws.{Added}
+use Rattle.replica.proofs.AddLaws.{add_seen, added}
+use Rattle.replica.specs.RemoveLaws.{Removed}
+use Rattle.replica.proofs.RemoveLaws.{removed}
+use Rattle.replica.specs.ResetLaws.{WasReset}
+use Rattle.replica.proofs.ResetLaws.{was_reset}
 use Rattle.layout.specs.Fields.{Bytes}
 use Rattle.layout.specs.Fits.{Fits}
 use Rattle.layout.specs.Image.{encode, image_of, good_image}
-use Rattle.layout.specs.Main.{accepted, encode_good, good_formed, good_length}
+use Rattle.layout.proofs.MainFacts.{accepted, encode_good, good_formed, good_length}
 use Rattle.results.specs.declared.Written.{Written}
-use Rattle.results.specs.Call.{table_of, answered, meets_once}
-use Rattle.results.specs.Laws.{number_right, number_lowest, limit_exactly, done_exactly, refused_keeps, granted_writes}
+use Rattle.results.specs.Call.{table_of, answered}
+use Rattle.results.proofs.CallFacts.{meets_once}
+use Rattle.results.proofs.Laws.{number_right, number_lowest, limit_exactly, done_exactly, refused_keeps, granted_writes}
 use Rattle.operations.specs.declared.Op.TheVariants.{Add, Remove}
-use Rattle.claims.specs.Granted.{WellFormed, Granted, Roomy, image, granted_fit, granted_well_formed, granted_says}
-use Rattle.claims.specs.Requests.{Request, apply_op, merge_with, reset_by, call_on, event_of, Lent, in_order, does}
-use Rattle.claims.specs.Merges.{Merges, Same, well_formed_sound, within_limits, outcome, same, merged_formed, merged_says, first_side, second_side}
-use Rattle.claims.specs.Histories.{Answers, History, Unforgotten, stays_down, comes_back_new}
+use Rattle.claims.specs.Granted.{WellFormed, Granted, Roomy, image}
+use Rattle.claims.proofs.GrantedFacts.{granted_fit, granted_well_formed, granted_says}
+use Rattle.claims.specs.Requests.{Request, apply_op, merge_with, reset_by, call_on, event_of, Lent}
+use Rattle.claims.proofs.RequestsFacts.{in_order, does}
+use Rattle.claims.specs.Merges.{Merges, Same}
+use Rattle.claims.proofs.MergesFacts.{well_formed_sound, within_limits, outcome, same, merged_formed, merged_says, first_side, second_side}
+use Rattle.claims.specs.Histories.{Answers, History, Unforgotten}
+use Rattle.claims.proofs.HistoriesFacts.{stays_down, comes_back_new}
 
 -- ---- 1. Any bytes are taken, and the work is done or the lowest number that applies is returned
 

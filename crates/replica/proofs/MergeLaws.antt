@@ -11,14 +11,21 @@ use Rattle.tables.specs.Refusal.{First}
 use Rattle.dots.specs.Clock.{Clock, count, covers}
 use Rattle.replica.specs.Replica.{Replica, entry, wait_at, is_in, holds, seen, killed}
 use Rattle.replica.specs.Rules.{unite, stay, together, merge, settled}
-use Rattle.replica.specs.WellFormed.{sound, sound_fine, fine_sound, fine_ext}
-use Rattle.replica.specs.Limits.{Limits, limits_of, broken, Within, broken_right, unbroken_right}
-use Rattle.replica.specs.Judge.{refused, granted, judge, merge_by, granted_is, refused_is}
-use Rattle.replica.specs.Settle.{settle_settled}
-use Rattle.replica.specs.Merged.{Merged, live, killed_kept, only_one, merge_swap, merge_self, merge_grouped}
-use Rattle.replica.specs.ByDots.{together_holds, merge_is, by_dots, literal}
-use Rattle.replica.specs.Membership.{Kept, membership}
-use Rattle.replica.specs.Report.{payload, merged_payload, report_elements, report_clock, report_waiting}
+use Rattle.replica.specs.WellFormed.{sound}
+use Rattle.replica.proofs.WellFormedFacts.{sound_fine, fine_sound, fine_ext}
+use Rattle.replica.specs.Limits.{Limits, limits_of, broken, Within}
+use Rattle.replica.proofs.LimitsFacts.{broken_right, unbroken_right}
+use Rattle.replica.specs.Judge.{refused, granted, judge, merge_by}
+use Rattle.replica.proofs.JudgeFacts.{granted_is, refused_is}
+use Rattle.replica.proofs.Settle.{settle_settled}
+use Rattle.replica.specs.Merged.{Merged, live}
+use Rattle.replica.proofs.MergedFacts.{killed_kept, only_one, merge_swap, merge_self, merge_grouped}
+use Rattle.replica.specs.ByDots.{by_dots}
+use Rattle.replica.proofs.ByDotsFacts.{together_holds, merge_is, literal}
+use Rattle.replica.specs.Membership.{Kept}
+use Rattle.replica.proofs.MembershipFacts.{membership}
+use Rattle.replica.specs.Report.{payload}
+use Rattle.replica.proofs.ReportFacts.{merged_payload, report_elements, report_clock, report_waiting}
 
 -- two well-formed replicas that say the same of every actor, dot and waiting clock are equal
 pub replica_ext : (A B : Replica) → T (sound A) → T (sound B) → ((a : ℕ) → count A.clock a ≡ count B.clock a)

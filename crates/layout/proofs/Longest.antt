@@ -9,8 +9,8 @@ use Rattle.replica.specs.Limits.{Limits, full}
 use Rattle.layout.specs.Lists.{bytes_of}
 use Rattle.layout.specs.Rows.{encode_row, encode_wait}
 use Rattle.layout.specs.Image.{rows_from, waits_from, length_of, encode}
-use Rattle.layout.specs.Round.{length_encode}
-use Rattle.layout.specs.Kit.{length_encode_clock, length_encode_row, length_encode_wait}
+use Rattle.layout.proofs.Round.{length_encode}
+use Rattle.layout.proofs.KitFacts.{length_encode_clock, length_encode_row, length_encode_wait}
 use Rattle.layout.specs.Formed.{Formed, EntryFine, WaitFine}
 
 -- the contents, V, an entry and a waiting remove at the limits

@@ -10,7 +10,7 @@ use Rattle.layout.specs.Fields.{u32_at, le32}
 use Rattle.layout.specs.Clock.{Width, narrow, dot_in, dot_end_in, encode_dot_in, clock_in, clock_end_in, encode_clock_in}
 use Rattle.layout.specs.Rows.{row_in, row_end_in, encode_row_in, wait_in, wait_end_in, encode_wait_in}
 use Rattle.layout.specs.Fits.{FitMembers, FitsDotIn, FitsClockIn, FitsRowIn, FitsWaitIn, FitsClock, FitsRow, FitsWait}
-use Rattle.layout.specs.Form.{Form, Faithful, form32, form64, faithful32, faithful64, ends_at, faithful_pair, counted, faithful_counted}
+use Rattle.layout.proofs.Form.{Form, Faithful, form32, form64, faithful32, faithful64, ends_at, faithful_pair, counted, faithful_counted}
 
 abbrev members : Form (List ℕ)
 members = counted 4 u32_at le32

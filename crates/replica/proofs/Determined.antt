@@ -9,9 +9,10 @@ use Rattle.dots.specs.declared.Dot.{Dot}
 use Rattle.dots.specs.Clock.{Clock, count, covers, cmp_clock, clock_order}
 use Rattle.dots.specs.ClockLaws.{clock_ext}
 use Rattle.replica.specs.Replica.{Wait, Replica, waits, wait_at}
-use Rattle.replica.specs.WellFormed.{Fine, sound_fine, fine_ext}
-use Rattle.replica.specs.Waits.{sets_ext}
-use Rattle.replica.specs.Merged.{wait_sets}
+use Rattle.replica.specs.WellFormed.{Fine}
+use Rattle.replica.proofs.WellFormedFacts.{sound_fine, fine_ext}
+use Rattle.replica.proofs.WaitsFacts.{sets_ext}
+use Rattle.replica.proofs.MergedFacts.{wait_sets}
 use Rattle.replica.specs.AddLaws.{Added}
 use Rattle.replica.specs.RemoveLaws.{Removed}
 use Rattle.replica.specs.ResetLaws.{WasReset}

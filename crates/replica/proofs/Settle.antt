@@ -13,8 +13,9 @@ use Rattle.dots.specs.ClockLaws.{covers_le}
 use Rattle.replica.specs.Replica.{Wait, Replica, entries, waits, member_sets, wait?, entry, wait_at, names, holds, seen, killed}
 use Rattle.replica.specs.Rules.{removes_from, uncovered, settle, settled}
 use Rattle.replica.specs.WellFormed.{Fine}
-use Rattle.replica.specs.Waits.{kept_names, kept_some, killed_from, killed_to}
-use Rattle.replica.specs.Removes.{FineEntries, removes_dot, fine_removes}
+use Rattle.replica.proofs.WaitsFacts.{kept_names, kept_some, killed_from, killed_to}
+use Rattle.replica.specs.Removes.{FineEntries}
+use Rattle.replica.proofs.RemovesFacts.{removes_dot, fine_removes}
 
 -- ---- the waiting removes whose clock V does not cover
 

@@ -8,14 +8,16 @@ use Rattle.std.proofs.Math.Dec.{T, leb→le, le→leb, eqb→eq}
 use Rattle.tables.specs.Order.{lt_nat, nat_lt}
 use Rattle.tables.specs.Truth.{and_r, and_i, bool_ext}
 use Rattle.tables.specs.Table.{Normal, Asc, Below, All, every, every_all, all_every, all_map, all_both}
-use Rattle.tables.specs.Ascending.{is_lt, before, ascending, asc_from}
+use Rattle.tables.specs.Ascending.{is_lt, before, ascending}
+use Rattle.tables.proofs.AscendingFacts.{asc_from}
 use Rattle.tables.specs.Zip.{Rise}
 use Rattle.dots.specs.Dot.{clocks}
 use Rattle.dots.specs.Clock.{Clock, covers, filled, cmp_clock, clock_order}
 use Rattle.dots.specs.ClockLaws.{normal_from, normal_to}
 use Rattle.dots.specs.Rising.{rising, rising_is, true_from}
 use Rattle.replica.specs.Replica.{Entry, Wait, Replica, entry_rows}
-use Rattle.replica.specs.WellFormed.{spared, sound, Fine, sound_fine}
+use Rattle.replica.specs.WellFormed.{spared, sound, Fine}
+use Rattle.replica.proofs.WellFormedFacts.{sound_fine}
 use Rattle.replica.specs.Limits.{Limits, full, broken, well_formed}
 use Rattle.layout.specs.Fields.{u32_at}
 use Rattle.layout.specs.Lists.{list_at, end_after}
@@ -23,11 +25,12 @@ use Rattle.layout.specs.Clock.{Width, narrow, dot_in, dot_end_in, clock_in, cloc
 use Rattle.layout.specs.Rows.{members_at, member_end, row_in, row_end_in, rows_at, wait_in, wait_end_in, waits_at}
 use Rattle.layout.specs.Image.{version, zero_field, total_length, entries_start, entries_count, waits_start_at, waits_count, readable_in, image_in, image_of, readable, good_in, good_image}
 use Rattle.layout.specs.Good.{named_tests, contents_tests, clock_tests, row_tests, wait_tests, parts_tests, rising_members, good_members_in, good_clock_in, good_rows_in, good_waits_in, good_contents_in, good_parts_in, good_entry, checks_in, checks, good_members, good_clock, good_rows, good_waits, good_parts}
-use Rattle.layout.specs.Form.{length_list_at, span_list}
-use Rattle.layout.specs.Parts.{Sound, sound_narrow, row_form, wait_form, faithful_clock, faithful_row, faithful_wait}
-use Rattle.layout.specs.Kit.{each_from, each_to}
-use Rattle.layout.specs.Round.{Readable, readable_from, readable_to, same}
-use Rattle.layout.specs.Formed.{Formed, EntryFine, WaitFine, formed_from, formed_to}
+use Rattle.layout.proofs.Form.{length_list_at, span_list}
+use Rattle.layout.proofs.Parts.{Sound, sound_narrow, row_form, wait_form, faithful_clock, faithful_row, faithful_wait}
+use Rattle.layout.proofs.KitFacts.{each_from, each_to}
+use Rattle.layout.proofs.Round.{Readable, readable_from, readable_to, same}
+use Rattle.layout.specs.Formed.{Formed, EntryFine, WaitFine}
+use Rattle.layout.proofs.FormedFacts.{formed_from, formed_to}
 
 -- ---- numbers that rise from low on
 
@@ -89,8 +92,8 @@ later_filled b (d ∷ c) t = tt
 
 -- what the test of members says
 record MembersFine (most : ℕ) (ms : List ℕ) : Type 0 where
-  rises_ok : Asc compare ms
-  named_ok : length ms ≤ most
+  pub rises_ok : Asc compare ms
+  pub named_ok : length ms ≤ most
 
 module _ (most : ℕ) (s : List ℕ) (q : ℕ) where
   abbrev ms : List ℕ
@@ -123,8 +126,8 @@ module _ (A : Width) (l : Limits) where
   length_clock s at = length_list_at (dot_in A) (dot_end_in A) s (at + 4) (u32_at s at)
 
   record ClockFine (c : Clock) : Type 0 where
-    normal_ok : Normal clocks c
-    few_ok : length c ≤ l.actors
+    pub normal_ok : Normal clocks c
+    pub few_ok : length c ≤ l.actors
 
   clock_from : (s : List ℕ) (at : ℕ) → T (good_clock_in A l s at) → ClockFine (clock_in A s at)
   unfolding good_clock_in
@@ -142,8 +145,8 @@ module _ (A : Width) (l : Limits) where
   -- ---- the entries
 
   record RowFine (e : Entry) : Type 0 where
-    clock_ok : ClockFine e.clock
-    filled_ok : T (filled e.clock)
+    pub clock_ok : ClockFine e.clock
+    pub filled_ok : T (filled e.clock)
 
   abbrev rows : List ℕ → ℕ → ℕ → List Entry
   rows = list_at (row_in A) (row_end_in A)
@@ -152,8 +155,8 @@ module _ (A : Width) (l : Limits) where
   members_in = map (λ e. e.member)
 
   record RowsFine (low : ℕ) (es : List Entry) : Type 0 where
-    rises_ok : Rises low (members_in es)
-    rows_ok : All RowFine es
+    pub rises_ok : Rises low (members_in es)
+    pub rows_ok : All RowFine es
 
   rows_from : (s : List ℕ) (p low n : ℕ) → T (good_rows_in A l s p low n) → RowsFine low (rows s p n)
   unfolding good_rows_in list_at row_in
@@ -200,8 +203,8 @@ module _ (A : Width) (l : Limits) where
   clocks_in = map (λ w. w.clock)
 
   record WaitsFine (last : Clock) (ws : List Wait) : Type 0 where
-    later_ok : T (ascending cmp_clock (last ∷ clocks_in ws))
-    waits_ok : All (WaitFine l) ws
+    pub later_ok : T (ascending cmp_clock (last ∷ clocks_in ws))
+    pub waits_ok : All (WaitFine l) ws
 
   waits_from : (s : List ℕ) (p : ℕ) (last : Clock) (n : ℕ) → T (good_waits_in A l s p last n) → WaitsFine last (waits s p n)
   unfolding good_waits_in list_at wait_in ascending before
@@ -240,13 +243,13 @@ module _ (A : Width) (l : Limits) where
 
   -- the tests of one pass, fact by fact
   record Tested (s : List ℕ) : Type 0 where
-    readable_ok : Readable A s
-    few_members : entries_count s ≤ l.members
-    few_waiting : waits_count s ≤ l.waiting
-    clock_ok : ClockFine (clock_in A s 24)
-    rows_ok : RowsFine 0 (image_in A s).entries
-    waits_ok : WaitsFine [] (image_in A s).waiting
-    entries_ok : All (λ e. T (good_entry (image_in A s) e)) (image_in A s).entries
+    pub readable_ok : Readable A s
+    pub few_members : entries_count s ≤ l.members
+    pub few_waiting : waits_count s ≤ l.waiting
+    pub clock_ok : ClockFine (clock_in A s 24)
+    pub rows_ok : RowsFine 0 (image_in A s).entries
+    pub waits_ok : WaitsFine [] (image_in A s).waiting
+    pub entries_ok : All (λ e. T (good_entry (image_in A s) e)) (image_in A s).entries
 
   abbrev end_test : List ℕ → Bool
   end_test s = eqb (end_after (wait_end_in A) s (waits_start_at s) (waits_count s)) (length s)

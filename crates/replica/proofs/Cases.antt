@@ -167,8 +167,8 @@ unfolding covers merged applied reset_by zip set_of unite join_waits remove_from
 avoided = refl
 
 -- ---- "At the limits: 16 actors granted, a 17th refused with 6; 64 members granted, 65 refused with 7; an add of a 65th member that a waiting
--- remove kills at once is granted."
 
+-- remove kills at once is granted."
 abbrev up_to : {X : Type 0} → (ℕ → X) → ℕ → List X → List X
 up_to f zero rest = rest
 up_to f (suc n) rest = up_to f n (f n ∷ rest)

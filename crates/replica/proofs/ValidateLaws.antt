@@ -11,9 +11,10 @@ use Rattle.dots.specs.declared.Dot.{Dot}
 use Rattle.dots.specs.declared.DotRange.{DotRange}
 use Rattle.dots.specs.Dot.{clocks, counter_of, actor_of}
 use Rattle.dots.specs.Clock.{count, gap}
-use Rattle.replica.specs.Lists.{any_append, any_mapped, all_append, all_mapped, all_there}
+use Rattle.replica.proofs.Lists.{any_append, any_mapped, all_append, all_mapped, all_there}
 use Rattle.replica.specs.Replica.{Entry, Replica, entries, clock_of, entry, holds_in, holds}
-use Rattle.replica.specs.WellFormed.{sound, Fine, sound_fine}
+use Rattle.replica.specs.WellFormed.{sound, Fine}
+use Rattle.replica.proofs.WellFormedFacts.{sound_fine}
 use Rattle.replica.specs.History.{Add}
 use Rattle.replica.specs.Validate.{validate_op, Triple, reportable, with_theirs, triples, first, first_spent, Spent, spent_of, validate_merge}
 

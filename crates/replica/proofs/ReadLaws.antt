@@ -10,15 +10,18 @@ use Rattle.std.proofs.Math.Dec.{eqb→eq}
 use Rattle.tables.specs.Order.{nat_order, self}
 use Rattle.tables.specs.Truth.{and_l, and_r, and_i, bool_ext}
 use Rattle.tables.specs.Table.{row_at, is_some, find_has}
-use Rattle.tables.specs.Ascending.{ascending, asc_to}
+use Rattle.tables.specs.Ascending.{ascending}
+use Rattle.tables.proofs.AscendingFacts.{asc_to}
 use Rattle.dots.specs.Clock.{Clock, count, covers}
 use Rattle.dots.specs.ClockLaws.{normal_to, le_covers}
 use Rattle.replica.specs.Replica.{Entry, Replica, entries, clock_of, entry, is_in, holds}
 use Rattle.replica.specs.Rules.{remove}
-use Rattle.replica.specs.WellFormed.{sound, Fine, sound_fine}
-use Rattle.replica.specs.Membership.{in_holds, holds_in}
+use Rattle.replica.specs.WellFormed.{sound, Fine}
+use Rattle.replica.proofs.WellFormedFacts.{sound_fine}
+use Rattle.replica.proofs.MembershipFacts.{in_holds, holds_in}
 use Rattle.replica.specs.Listed.{listed}
-use Rattle.replica.specs.RemoveLaws.{Removed, removed}
+use Rattle.replica.specs.RemoveLaws.{Removed}
+use Rattle.replica.proofs.RemoveLaws.{removed}
 use Rattle.replica.specs.Reads.{contains, read}
 
 -- a member is there exactly if its entry holds a dot

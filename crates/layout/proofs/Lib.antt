@@ -1,0 +1,11 @@
+pub mod Checks
+pub mod FieldsFacts
+pub mod Form
+pub mod FormedFacts
+pub mod Held
+pub mod KitFacts
+pub mod Longest
+pub mod MainFacts
+pub mod Parts
+pub mod Reached
+pub mod Round

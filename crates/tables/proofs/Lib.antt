@@ -1,0 +1,2 @@
+pub mod AscendingFacts
+pub mod RefusalFacts
