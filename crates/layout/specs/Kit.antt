@@ -14,7 +14,6 @@ use Rattle.dots.specs.Rising.{rising, rising_normal, true_from}
 use Rattle.replica.specs.Replica.{Entry, Wait}
 use Rattle.replica.specs.Limits.{full}
 use Rattle.layout.specs.Fields.{u32_at, le32}
-
 use Rattle.layout.specs.Lists.{list_at, starts_at, end_after, bytes_of}
 use Rattle.layout.specs.Clock.{narrow, dot_in, clock_in, clock_end_in, clock_at, clock_end, encode_clock_in, encode_clock, encode_dots, encode_dot, encode_dot_in}
 use Rattle.layout.specs.Rows.{row_end_in, row_at, row_end, rows_at, places_at, encode_row_in, encode_row, wait_end_in, wait_end, wait_at_place, waits_at, wait_places_at, encode_wait_in, encode_wait, members_at, encode_members}

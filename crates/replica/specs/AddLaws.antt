@@ -19,7 +19,6 @@ use Rattle.dots.specs.ClockLaws.{normal_from, normal_empty, merged_count, merged
 use Rattle.replica.specs.Replica.{Entry, Replica, entries, clock_of, entry, wait_at, holds, seen, killed}
 use Rattle.replica.specs.Rules.{set_of, takes, settle, settled, add}
 use Rattle.replica.specs.WellFormed.{Fine, sound}
-
 use Rattle.replica.specs.Listed.{listed}
 
 -- ---- each listed member's clock takes the dot

@@ -12,10 +12,8 @@ use Rattle.dots.specs.ClockLaws.{merged_count, merged_normal, dots_ext}
 use Rattle.replica.specs.Replica.{Entry, Replica, entries, waits, entry, wait_at, holds, seen, killed}
 use Rattle.replica.specs.Rules.{unite, settle, stay, stay_at, staying, together, merge}
 use Rattle.replica.specs.OneDot.{kept_one}
-
 use Rattle.replica.specs.Removes.{FineEntries}
 use Rattle.replica.specs.WellFormed.{Fine}
-
 use Rattle.replica.specs.Merged.{Merged, live}
 
 -- ---- the replica with the dots that live

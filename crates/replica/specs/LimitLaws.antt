@@ -10,13 +10,10 @@ use Rattle.tables.specs.Walk.{length_collect}
 use Rattle.tables.specs.Refusal.{first_of}
 use Rattle.dots.specs.declared.Dot.{Dot}
 use Rattle.dots.specs.Clock.{normal, merged, Clock, covers_dot, covers, applied, reset_by}
-
 use Rattle.replica.specs.Replica.{Entry, Wait, Replica, entry?, member_sets, waits}
 use Rattle.replica.specs.Rules.{unite, uncovered, join_waits, set_of, remove_from, settle, takes, add, remove, merge, rewait, reset_waits, reset}
 use Rattle.replica.specs.Limits.{Limits, limits_of, broken, well_formed, Within}
-
 use Rattle.replica.specs.Judge.{granted, merge_by}
-
 use Rattle.replica.specs.History.{Add, Remove, apply, Event, Apply, MergeWith, MergeInto, Reset, step, judged}
 use Rattle.replica.specs.HistoryLaws.{fair}
 

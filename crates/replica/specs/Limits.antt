@@ -7,11 +7,9 @@ use Rattle.std.proofs.Math.ListN.{length}
 use Rattle.std.proofs.Common.{ltb-false, le-ltb, eq-eqb}
 use Rattle.tables.specs.Order.{nat_order}
 use Rattle.tables.specs.Ascending.{ascending, before}
-
 use Rattle.tables.specs.Truth.{and_l, and_r, and_i}
 use Rattle.tables.specs.Table.{All, any, every, all_map, any_none, none_any, every_all, all_every}
 use Rattle.tables.specs.Refusal.{Refusal, ◌if◌, first_of, First}
-
 use Rattle.replica.specs.Replica.{Wait, Replica}
 use Rattle.replica.specs.WellFormed.{sound}
 

@@ -14,7 +14,6 @@ use Rattle.dots.specs.Clock.{Clock, count}
 use Rattle.replica.specs.Replica.{Entry, Replica, entries, member_sets, entry?, clock_of, entry, wait_at, names, is_in, holds, seen, killed}
 use Rattle.replica.specs.Rules.{stay}
 use Rattle.replica.specs.OneDot.{stays}
-
 use Rattle.replica.specs.WellFormed.{Fine}
 use Rattle.replica.specs.Merged.{Merged, live}
 

@@ -14,9 +14,7 @@ use Rattle.dots.specs.ClockLaws.{clock_ext, covers_le, not_covers, leb_max}
 use Rattle.replica.specs.Replica.{Wait, Replica, waits, entry, wait_at, names, holds, seen, killed}
 use Rattle.replica.specs.Rules.{unite, stay, settled}
 use Rattle.replica.specs.OneDot.{lives, sane, rest}
-
 use Rattle.replica.specs.Waits.{Sets}
-
 use Rattle.replica.specs.WellFormed.{Fine}
 
 -- the dot (a, n) of m stays, and no waiting remove of either side that names m covers it

@@ -14,9 +14,7 @@ use Rattle.dots.specs.ClockLaws.{normal_from, normal_to, normal_empty}
 use Rattle.replica.specs.Replica.{Wait, Replica, entries, waits, member_sets, members_of, entry, wait_at, holds, kills, killed}
 use Rattle.replica.specs.Rules.{set_of, unite, join_waits, remove_from, remove}
 use Rattle.replica.specs.WellFormed.{Fine, sound}
-
 use Rattle.replica.specs.Removes.{FineEntries}
-
 use Rattle.replica.specs.Listed.{listed}
 
 -- the waiting remove that it may become

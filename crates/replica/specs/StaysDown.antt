@@ -16,18 +16,13 @@ use Rattle.dots.specs.Dot.{actor_of, dot}
 use Rattle.dots.specs.Clock.{Clock, count, normal, covers, merged, reset_by}
 use Rattle.dots.specs.ClockLaws.{covers_le}
 use Rattle.dots.specs.Rising.{true_from}
-
 use Rattle.replica.specs.Replica.{Wait, Replica, member_sets, is_in, holds, seen, kills, killed}
 use Rattle.replica.specs.Rules.{set_of, unite, join_waits, remove_from, removes_from, settle, add, remove, stay, stay_at, staying, merge, rewait, reset_waits, reset}
 use Rattle.replica.specs.History.{Add, Remove, apply, Event, Apply, MergeWith, MergeInto, Reset, step, run, judged}
 use Rattle.replica.specs.HistoryLaws.{fair}
-
 use Rattle.replica.specs.WellFormed.{sound}
-
 use Rattle.replica.specs.Listed.{listed}
-
 use Rattle.replica.specs.RemoveLaws.{Removed}
-
 use Rattle.replica.specs.Merged.{live}
 
 -- the event is a reset whose clock covers the dot (a, n)

@@ -11,7 +11,6 @@ use Rattle.tables.specs.Order.{nat_order}
 use Rattle.tables.specs.Truth.{and_l, and_r, or_e}
 use Rattle.tables.specs.Table.{get, Normal, Proper, is_some, every, alls, alls_from, alls_to, All, all_map, all_any, any_from, every_all, map_id, row_at, key_at, by_row, all_at, every_at, at_every, ext}
 use Rattle.tables.specs.Ascending.{ascending}
-
 use Rattle.dots.specs.declared.Dot.{Dot}
 use Rattle.dots.specs.Dot.{clocks, dot?, counter_of, actor_of}
 use Rattle.dots.specs.Clock.{Clock, count, covers, cmp_clock, clock_order, normal, filled}
