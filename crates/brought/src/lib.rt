@@ -1,5 +1,6 @@
 // What an operation brings, in bytes.
 #![tactic(auto)]
+
 ghost use Rattle.std.specs.Prelude.{◌≡◌, ◌≤◌, min};
 ghost use Rattle.fields.specs.Read.{Put};
 ghost use Rattle.brought.specs.Brought.{counted_members};

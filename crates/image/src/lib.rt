@@ -1,5 +1,6 @@
 // Replica images: the check of any bytes, and what the calls go by.
 #![tactic(auto)]
+
 ghost use Rattle.std.specs.Prelude.{◌≡◌, true, ◌+◌, ◌*◌, ◌<◌, ◌≤◌, length, take};
 ghost use Rattle.tables.specs.Table.{pick};
 ghost use Rattle.layout.specs.Clock.{dot_at, dots_at, clock_at};

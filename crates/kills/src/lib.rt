@@ -1,5 +1,6 @@
 // Kill lines: for each entry and each actor of a clock, up to which counter the waiting removes that name the entry's member cover the actor's dots.
 #![tactic(auto)]
+
 ghost use Rattle.std.specs.Prelude.{◌≡◌, map, ◌+◌, ◌*◌, ◌<◌, ◌≤◌, max, min, length, take};
 ghost use Rattle.std.proofs.lemmas.List.Edits.{sets};
 ghost use Rattle.tables.specs.Table.{pick};

@@ -1,5 +1,6 @@
 // Operations on the set, and what their validation says (src/orswot.rs of the crate).
 #![tactic(auto)]
+
 use dots::{Dot, DotRange};
 
 // An add carrying a dot, or a remove. A remove's clock and either's members come beside it.

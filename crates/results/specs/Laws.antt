@@ -15,13 +15,10 @@ use borrow.Author.Tests.{eq-eqb, ne_eqb, ltb-true, ltb-false, lt-ltb, le-ltb}
 use Rattle.tables.specs.Order.{nat_order, nat_lt}
 use Rattle.tables.specs.Truth.{and_l, and_r, and_i}
 use Rattle.tables.specs.Ascending.{is_lt, before, ascending}
-
 use Rattle.tables.specs.Table.{pick, All, all_map, any}
 use Rattle.tables.specs.Refusal.{Refusal, ◌if◌, first_of, Numbered, NoneApplies, First}
-
 use Rattle.replica.specs.Replica.{Replica}
 use Rattle.replica.specs.Limits.{Limits, limits_of, broken, Within}
-
 use Rattle.layout.specs.Image.{encode}
 use Rattle.results.specs.declared.Written.{Written}
 use Rattle.results.specs.Call.{Call, finish_of, table_of, number_of, answered, answer_of, output_of, Meets}

@@ -1,5 +1,6 @@
 // What a call that writes a replica answers, and how its result is finished.
 #![tactic(auto)]
+
 ghost use Rattle.std.specs.Prelude.{◌≡◌, ◌-◌, ◌<◌, min};
 ghost use Rattle.std.proofs.lemmas.List.Edits.{sets};
 ghost use Rattle.std.proofs.Math.Seq.{slice};

@@ -1,6 +1,7 @@
 // What stands at a place of an image: an entry, a waiting remove; and a waiting remove written. A byte past the end reads as 0, and is not
 // written: no call asks for room or for a good place.
 #![tactic(auto)]
+
 ghost use Rattle.std.specs.Prelude.{◌≡◌, ◌+◌, ◌≤◌, ◌<◌, min, length, take};
 ghost use Rattle.layout.specs.Clock.{clock_end};
 ghost use Rattle.layout.specs.Rows.{encode_wait};

@@ -1,5 +1,6 @@
 // The parts of an image, checked where they stand: clocks, entries, waiting removes, of any bytes. Each answer is the place after what stands there, and 0 where none does.
 #![tactic(auto)]
+
 ghost use Rattle.std.specs.Prelude.{◌≡◌, ◌+◌, ◌-◌, ◌*◌, ◌<◌, ◌≤◌, length};
 ghost use Rattle.std.proofs.Math.Dec.{compare_is_eq};
 ghost use Rattle.tables.specs.Ascending.{is_lt};

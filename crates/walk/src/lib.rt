@@ -1,5 +1,6 @@
 // A walk over the entries of a replica's image: it remembers the lent image and its place in it. Begun on an image that isn't well-formed, it hands out none.
 #![tactic(auto)]
+
 ghost use Rattle.std.specs.Prelude.{◌≡◌, ◌<◌};
 ghost use Rattle.walk.specs.Walks.{end_at, start_at, hand_at, part_at, onward_at};
 

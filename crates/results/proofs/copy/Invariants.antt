@@ -1,0 +1,12 @@
+use Prim.Native.Nat.{◌+◌, ◌-◌, min}
+use mathlib.Core.Path.{◌≡◌}
+use lib.ListN.{length}
+use lib.Seq.{sets, slice}
+use Rattle.results.proofs.copy.Given as goal
+
+abbrev pub invariant-loop-i : goal.invariant-loop-i
+invariant-loop-i l =
+    (l.n ≡ min (min l.end (length l.s) - l.from) (length l.initial.out - l.at)) × (length l.out ≡ length l.initial.out) × (sets l.out (l.at + l.i) (slice (l.from + l.i) l.end l.s) ≡ sets l.initial.out l.at (slice l.from l.end l.s))
+
+abbrev pub decreases-loop-i : goal.decreases-loop-i
+decreases-loop-i l = l.n - l.i
