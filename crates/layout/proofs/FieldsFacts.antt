@@ -1,5 +1,5 @@
 -- What is proved of specs/Fields.antt.
-use Rattle.std.specs.Prelude.{◌≡◌, refl, List, [], ◌∷◌, ◌++◌, ℕ, ◌+◌, ◌*◌, ◌/◌, ◌%◌, ◌<◌, length, get_or}
+use Rattle.std.specs.Prelude.{◌≡◌, refl, ℕ, length}
 use Rattle.layout.specs.Fields.{le16, le32, le64}
 
 pub length_le16 : (v : ℕ) → length (le16 v) ≡ 2

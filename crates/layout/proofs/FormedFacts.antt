@@ -7,16 +7,15 @@ use Rattle.std.proofs.Math.Dec.{T, leb→le, le→leb}
 use Rattle.std.proofs.Math.ListN.{length}
 use Rattle.tables.specs.Order.{nat_order}
 use Rattle.tables.specs.Truth.{and_l, and_r, and_i}
-use Rattle.tables.specs.Table.{Normal, Asc, All, any, every, pick, alls, alls_from, alls_to, all_map, all_both, every_all, all_every}
-use Rattle.tables.specs.Ascending.{ascending}
+use Rattle.tables.specs.Table.{Normal, All, any, every, pick, alls, alls_from, alls_to, all_map, all_both, every_all, all_every}
 use Rattle.tables.proofs.AscendingFacts.{asc_from, asc_to}
 use Rattle.tables.specs.Refusal.{first_of}
 use Rattle.dots.specs.Dot.{clocks}
-use Rattle.dots.specs.Clock.{Clock, covers, glb, filled, cmp_clock}
+use Rattle.dots.specs.Clock.{Clock, covers, glb}
 use Rattle.dots.specs.ClockLaws.{normal_from, normal_to, clock_ext, covers_le}
 use Rattle.dots.specs.Ruled.{glb_normal, glb_count, glb_length}
 use Rattle.replica.specs.Replica.{Entry, Wait, Replica}
-use Rattle.replica.specs.WellFormed.{spared, entry_tests, wait_tests, tests, sound}
+use Rattle.replica.specs.WellFormed.{entry_tests, wait_tests, tests, sound}
 use Rattle.replica.specs.Limits.{Limits, limits_of, broken, well_formed}
 use Rattle.layout.specs.Formed.{Within, EntryFine, WaitFine, Formed}
 

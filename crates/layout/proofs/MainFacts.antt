@@ -1,16 +1,15 @@
 -- What is proved of specs/Main.antt.
-use Rattle.std.specs.Prelude.{ℕ, ◌≤◌, ◌<◌, ◌^◌, ◌≡◌, refl, ◌↔◌, List, [], ◌∷◌, T, length, get_or}
+use Rattle.std.specs.Prelude.{ℕ, ◌≤◌, ◌<◌, ◌^◌, ◌≡◌, refl, ◌↔◌, List, [], ◌∷◌, T, length}
 use Rattle.std.proofs.Common.{sym, ap, ◌∙◌, arith}
 use Rattle.std.proofs.Math.Option.{some}
 use Rattle.tables.specs.Truth.{and_l, and_r, and_i}
-use Rattle.dots.specs.Dot.{dot}
 use Rattle.dots.specs.Rising.{true_from}
 use Rattle.replica.specs.Replica.{Replica}
 use Rattle.replica.specs.Limits.{full, well_formed}
 use Rattle.layout.specs.Fields.{Bytes, le16, le32, le64}
 use Rattle.layout.specs.Lists.{bytes_of, end_after}
-use Rattle.layout.specs.Clock.{narrow, encode_dot_in, encode_clock_in, clock_end}
-use Rattle.layout.specs.Rows.{encode_row_in, row_end, places_at, wait_end, wait_places_at}
+use Rattle.layout.specs.Clock.{narrow, encode_dot_in, encode_clock_in}
+use Rattle.layout.specs.Rows.{encode_row_in}
 use Rattle.layout.specs.Image.{contents, contents_of, rows_from, waits_from, length_of, encode_in, encode, readable, image_of, good_in, good_image, decode, entries_start, entries_count, waits_start_at, waits_count}
 use Rattle.layout.specs.Fits.{Fits}
 use Rattle.layout.specs.Good.{checks}

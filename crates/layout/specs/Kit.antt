@@ -1,23 +1,14 @@
 -- What code goes by: one turn along a list in bytes, from either end; the thing at a place; and what each test of a pass says.
-use Rattle.std.specs.Prelude.{◌≡◌, Bool, true, T, length, get_or, take, drop}
-use Rattle.std.proofs.Math.Path.{refl, ap}
-use Rattle.std.proofs.Common.{sym, arith, mul-zero, mul-suc, leb→le, ltb→lt, length-append, take_at, le-leb}
-use mathlib.Core.List.{List, [], ◌∷◌, ◌++◌, append_assoc}
-use Prim.Native.Nat.{ℕ, suc, zero, ◌+◌, ◌*◌, ◌≤◌, ◌<◌}
-use Rattle.std.proofs.Math.Numerals.{add-one}
-use Rattle.tables.specs.Table.{Normal}
-use Rattle.tables.specs.Truth.{and_l, and_r, and_i}
+use Rattle.std.specs.Prelude.{◌≡◌, Bool, true, T, length}
+use mathlib.Core.List.{List, [], ◌∷◌}
+use Prim.Native.Nat.{ℕ, ◌+◌, ◌*◌, ◌≤◌, ◌<◌}
 use Rattle.tables.specs.Ascending.{is_lt}
-use Rattle.dots.specs.Dot.{clocks}
 use Rattle.dots.specs.Clock.{Clock, cmp_clock}
-use Rattle.dots.specs.Rising.{rising, rising_normal, true_from}
-use Rattle.replica.specs.Replica.{Entry, Wait}
-use Rattle.replica.specs.Limits.{full}
-use Rattle.layout.specs.Fields.{u32_at, le32}
-use Rattle.layout.specs.Lists.{list_at, starts_at, end_after, bytes_of}
-use Rattle.layout.specs.Clock.{narrow, dot_in, clock_in, clock_end_in, clock_at, clock_end, encode_clock_in, encode_clock, encode_dots, encode_dot, encode_dot_in}
-use Rattle.layout.specs.Rows.{row_end_in, row_at, row_end, rows_at, places_at, encode_row_in, encode_row, wait_end_in, wait_end, wait_at_place, waits_at, wait_places_at, encode_wait_in, encode_wait, members_at, encode_members}
-use Rattle.layout.specs.Good.{chain, named_tests, clock_tests, row_tests, wait_tests, rising_members, good_members_in, good_members, good_clock_in, good_clock, good_rows_in, good_rows, good_waits_in, good_waits}
+use Rattle.dots.specs.Rising.{rising}
+use Rattle.layout.specs.Fields.{u32_at}
+use Rattle.layout.specs.Clock.{clock_at, clock_end}
+use Rattle.layout.specs.Rows.{row_end, wait_end, members_at}
+use Rattle.layout.specs.Good.{rising_members, good_members, good_clock, good_rows, good_waits}
 
 -- ---- what the tests say
 

@@ -1,6 +1,6 @@
 -- What is proved of specs/AddLaws.antt.
 use Prim.Native.Nat.{ℕ, suc, ◌≤◌, ◌<◌, max, compare, Ordering}
-use Rattle.std.specs.Prelude.{◌≡◌, refl, Bool, not, ◌&&◌, ◌||◌, List, [], ◌∷◌, map, T, leb, ltb}
+use Rattle.std.specs.Prelude.{◌≡◌, refl, Bool, not, ◌&&◌, List, [], ◌∷◌, map, T, leb, ltb}
 use Rattle.std.proofs.Common.{sym, ap₂, ◌∙◌, subst, lt→ltb, leb-false}
 use Rattle.std.proofs.Math.Path.{ap}
 use Rattle.std.proofs.Math.Bool.{true, false}
@@ -16,8 +16,8 @@ use Rattle.dots.specs.declared.Dot.{Dot}
 use Rattle.dots.specs.Dot.{clocks, actor_of, counter_of}
 use Rattle.dots.specs.Clock.{Clock, count, normal, covers, merged, applied}
 use Rattle.dots.specs.ClockLaws.{normal_from, normal_empty, merged_count, merged_normal}
-use Rattle.replica.specs.Replica.{Entry, Replica, entries, clock_of, entry, wait_at, holds, seen, killed}
-use Rattle.replica.specs.Rules.{set_of, takes, settle, settled, add}
+use Rattle.replica.specs.Replica.{Entry, Replica, entries, clock_of, entry, holds, killed}
+use Rattle.replica.specs.Rules.{set_of, takes, settle, add}
 use Rattle.replica.specs.WellFormed.{Fine, sound}
 use Rattle.replica.proofs.WellFormedFacts.{sound_fine, fine_sound}
 use Rattle.replica.specs.Listed.{listed}

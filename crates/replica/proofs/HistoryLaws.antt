@@ -2,7 +2,7 @@
 use Rattle.std.specs.Prelude.{◌≡◌, refl, Bool, true, false, List, [], ◌∷◌, T}
 use Rattle.tables.specs.Truth.{and_l, and_r}
 use Rattle.tables.specs.Table.{pick, every}
-use Rattle.dots.specs.Clock.{normal, covers}
+use Rattle.dots.specs.Clock.{covers}
 use Rattle.replica.specs.Replica.{Replica}
 use Rattle.replica.specs.Rules.{add}
 use Rattle.replica.specs.History.{Add, Remove, apply, Event, Apply, MergeWith, MergeInto, Reset, step, run, judged}

@@ -2,7 +2,6 @@
 use Rattle.std.specs.Prelude.{ℕ, zero, suc, ◌<◌, ◌≡◌, refl}
 use Rattle.std.proofs.Common.{◌∙◌, arith}
 use Rattle.replica.specs.Replica.{Replica}
-use Rattle.replica.specs.Rules.{merge}
 use Rattle.replica.specs.Judge.{verdict, judge, refused, granted}
 
 -- what is granted is the replica that was judged

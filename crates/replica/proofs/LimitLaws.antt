@@ -1,5 +1,5 @@
 -- What is proved of specs/LimitLaws.antt.
-use Rattle.std.specs.Prelude.{ℕ, suc, ◌+◌, ◌≤◌, ◌≡◌, refl, ◌⊎◌, Bool, ◌&&◌, List, [], ◌∷◌, T, leb, ltb, eqb, length}
+use Rattle.std.specs.Prelude.{ℕ, suc, ◌+◌, ◌≤◌, ◌≡◌, refl, ◌⊎◌, Bool, List, [], ◌∷◌, T, leb, ltb, eqb, length}
 use Rattle.std.proofs.Common.{ap, subst, inl, inr, le_trans, arith, leb→le, le-ltb, eqb-true}
 use Rattle.std.proofs.Math.Bool.{true, false}
 use Rattle.std.proofs.lemmas.Bool.{false≢true}

@@ -1,6 +1,6 @@
 -- What is proved of specs/Limits.antt.
 use Prim.Native.Nat.{ℕ, ◌≤◌, ◌<◌, compare}
-use Rattle.std.specs.Prelude.{◌≡◌, ◌↔◌, Bool, true, false, ◌&&◌, List, [], ◌∷◌, leb, ltb, eqb}
+use Rattle.std.specs.Prelude.{◌≡◌, ◌↔◌, Bool, true, false, ◌&&◌, [], ◌∷◌, leb, ltb, eqb}
 use native.Mathlib.Omega.{arith}
 use Rattle.std.proofs.Math.Dec.{T, leb→le, le→leb, eqb→eq}
 use Rattle.std.proofs.Math.ListN.{length}
@@ -9,8 +9,8 @@ use Rattle.tables.specs.Order.{nat_order}
 use Rattle.tables.specs.Ascending.{ascending, before}
 use Rattle.tables.proofs.AscendingFacts.{asc_from}
 use Rattle.tables.specs.Truth.{and_l, and_r, and_i}
-use Rattle.tables.specs.Table.{All, any, every, all_map, any_none, none_any, every_all, all_every}
-use Rattle.tables.specs.Refusal.{Refusal, ◌if◌, first_of, First}
+use Rattle.tables.specs.Table.{All, every, all_map, any_none, none_any, every_all, all_every}
+use Rattle.tables.specs.Refusal.{first_of, First}
 use Rattle.tables.proofs.RefusalFacts.{first_right, first_lowest, done_right}
 use Rattle.replica.specs.Replica.{Wait, Replica}
 use Rattle.replica.specs.WellFormed.{sound}

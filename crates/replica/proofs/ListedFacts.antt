@@ -1,10 +1,10 @@
 -- What is proved of specs/Listed.antt.
 use Prim.Native.Nat.{ℕ, compare}
-use Rattle.std.specs.Prelude.{◌≡◌, refl, Bool, List, []}
+use Rattle.std.specs.Prelude.{◌≡◌, refl, List, []}
 use Rattle.std.proofs.Common.{◌∙◌}
 use Rattle.std.proofs.Math.Bool.{or-false}
 use Rattle.tables.specs.Order.{nat_order}
-use Rattle.tables.specs.Table.{Normal, Proper, get, has, asc_union, has_union, all_any, map_id}
+use Rattle.tables.specs.Table.{Normal, Proper, get, asc_union, has_union, all_any, map_id}
 use Rattle.replica.specs.Replica.{member_sets}
 use Rattle.replica.specs.Rules.{set_of}
 use Rattle.replica.specs.Listed.{listed}

@@ -8,10 +8,10 @@ use Rattle.std.proofs.Math.Arith.{lt→nleb}
 use Rattle.std.proofs.Math.Dec.{not_T, nleb→lt, eqb-zero-suc}
 use Rattle.tables.specs.Order.{nat_order, self}
 use Rattle.tables.specs.Truth.{and_l, and_r, and_i, or_l, or_r, or_e, nor_l, nor_r, nor_i}
-use Rattle.tables.specs.Table.{get, Normal, Proper, is_some, row_at, all_at}
+use Rattle.tables.specs.Table.{Normal, Proper, is_some, row_at, all_at}
 use Rattle.dots.specs.Dot.{clocks, dot?, actor_of}
 use Rattle.dots.specs.Clock.{Clock, count}
-use Rattle.replica.specs.Replica.{Entry, Replica, entries, member_sets, entry?, clock_of, entry, wait_at, names, is_in, holds, seen, killed}
+use Rattle.replica.specs.Replica.{Entry, Replica, entries, entry?, clock_of, entry, wait_at, names, is_in, holds, seen, killed}
 use Rattle.replica.specs.Rules.{stay}
 use Rattle.replica.specs.OneDot.{stays}
 use Rattle.replica.proofs.WaitsFacts.{killed_from, killed_to}

@@ -11,7 +11,7 @@ use Rattle.tables.specs.Table.{get, Normal, pick, is_some, any, hit}
 use Rattle.dots.specs.Dot.{clocks}
 use Rattle.dots.specs.Clock.{Clock, count, normal, covers, cmp_clock, clock_order}
 use Rattle.dots.specs.ClockLaws.{normal_from, normal_to, normal_empty}
-use Rattle.replica.specs.Replica.{Wait, Replica, entries, waits, member_sets, members_of, entry, wait_at, holds, kills, killed}
+use Rattle.replica.specs.Replica.{Wait, Replica, waits, member_sets, members_of, entry, wait_at, holds, kills, killed}
 use Rattle.replica.specs.Rules.{set_of, unite, join_waits, remove_from, remove}
 use Rattle.replica.specs.WellFormed.{Fine, sound}
 use Rattle.replica.proofs.WellFormedFacts.{sound_fine, fine_sound, fine_ext}

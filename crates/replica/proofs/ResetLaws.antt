@@ -13,7 +13,7 @@ use Rattle.dots.specs.Dot.{clocks}
 use Rattle.dots.specs.Clock.{Clock, count, filled, reset_by, cmp_clock, clock_order}
 use Rattle.dots.specs.ClockLaws.{reset_normal, reset_count, reset_dot}
 use Rattle.replica.proofs.Lists.{any_same, any_more}
-use Rattle.replica.specs.Replica.{Wait, Replica, entry?, entries, waits, member_sets, members_of, entry, wait_at, names, holds, kills, killed}
+use Rattle.replica.specs.Replica.{Wait, Replica, entry?, entries, waits, member_sets, members_of, entry, names, holds, kills, killed}
 use Rattle.replica.specs.Rules.{rewait, reset_waits, reset}
 use Rattle.replica.specs.WellFormed.{Fine, sound}
 use Rattle.replica.proofs.WellFormedFacts.{sound_fine, fine_sound}

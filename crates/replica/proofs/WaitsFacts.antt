@@ -1,5 +1,5 @@
 -- What is proved of specs/Waits.antt.
-use Rattle.std.specs.Prelude.{ℕ, ◌≡◌, refl, ◌≢◌, Bool, true, false, ◌||◌, List, [], ◌∷◌, T, leb}
+use Rattle.std.specs.Prelude.{ℕ, ◌≡◌, refl, Bool, true, false, ◌||◌, List, [], ◌∷◌, T, leb}
 use Rattle.std.proofs.Common.{sym, ap, ◌∙◌, subst}
 use Rattle.std.proofs.Math.Bool.{or-false, or_comm, or_assoc, or_self}
 use Rattle.std.proofs.lemmas.Bool.{false≢true}
@@ -8,7 +8,6 @@ use Rattle.tables.specs.Order.{self}
 use Rattle.tables.specs.Truth.{and_l, and_r, and_i, or_l, or_r, or_e, bool_ext}
 use Rattle.tables.specs.Table.{get, Normal, any, pick, is_some, row_at, key_at, any_at, at_any, ext}
 use Rattle.tables.specs.Zip.{zip, get_zip, normal_zip}
-use Rattle.dots.specs.Dot.{clocks}
 use Rattle.dots.specs.Clock.{Clock, count, cmp_clock, clock_order}
 use Rattle.replica.specs.Replica.{Wait, Replica, waits, members_of, member_sets, wait_at, names, kills, killed}
 use Rattle.replica.specs.Rules.{unite, join_waits}

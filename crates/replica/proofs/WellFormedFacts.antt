@@ -14,7 +14,7 @@ use Rattle.tables.specs.Ascending.{ascending}
 use Rattle.tables.proofs.AscendingFacts.{asc_from, asc_to}
 use Rattle.dots.specs.declared.Dot.{Dot}
 use Rattle.dots.specs.Dot.{clocks, dot?, counter_of, actor_of}
-use Rattle.dots.specs.Clock.{Clock, count, covers, cmp_clock, clock_order, normal, filled}
+use Rattle.dots.specs.Clock.{Clock, count, cmp_clock, clock_order, filled}
 use Rattle.dots.specs.ClockLaws.{clock_ext, dots_ext, normal_from, normal_to, normal_empty, filled_from, filled_to, covers_le, le_covers}
 use Rattle.replica.specs.Replica.{Entry, Wait, Replica, entries, waits, member_sets, entry?, clock_of, members_of, entry, wait_at, holds, kills, killed}
 use Rattle.replica.specs.Waits.{GoodWait, Each}

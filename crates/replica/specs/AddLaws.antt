@@ -1,24 +1,16 @@
 -- What an add does, dot by dot.
-use Prim.Native.Nat.{ℕ, suc, ◌≤◌, ◌<◌, max, compare, Ordering}
-use Rattle.std.specs.Prelude.{◌≡◌, refl, Bool, not, ◌&&◌, ◌||◌, List, [], ◌∷◌, map, T, leb, ltb}
-use Rattle.std.proofs.Common.{sym, ap₂, ◌∙◌, subst, lt→ltb, leb-false}
-use Rattle.std.proofs.Math.Path.{ap}
-use Rattle.std.proofs.Math.Bool.{true, false}
+use Prim.Native.Nat.{ℕ, suc, max}
+use Rattle.std.specs.Prelude.{◌≡◌, not, ◌&&◌, ◌||◌, List, [], ◌∷◌, T}
+use Rattle.std.proofs.Math.Bool.{true}
 use Rattle.std.proofs.Math.Option.{none}
-use native.Mathlib.Omega.{arith}
-use Rattle.std.proofs.Math.Dec.{compare_is_eq, eqb, leb-zero}
-use Rattle.tables.specs.Order.{nat_order}
-use Rattle.tables.specs.Truth.{and_i}
-use Rattle.tables.specs.Ascending.{ascending, before}
-use Rattle.tables.specs.Table.{All, get, Normal, Proper, pick, is_some, find, hit, has, asc_union}
-use Rattle.tables.specs.Zip.{zip, get_zip, normal_zip}
+use Rattle.std.proofs.Math.Dec.{eqb}
+use Rattle.tables.specs.Table.{pick}
 use Rattle.dots.specs.declared.Dot.{Dot}
-use Rattle.dots.specs.Dot.{clocks, actor_of, counter_of}
-use Rattle.dots.specs.Clock.{Clock, count, normal, covers, merged, applied}
-use Rattle.dots.specs.ClockLaws.{normal_from, normal_empty, merged_count, merged_normal}
-use Rattle.replica.specs.Replica.{Entry, Replica, entries, clock_of, entry, wait_at, holds, seen, killed}
-use Rattle.replica.specs.Rules.{set_of, takes, settle, settled, add}
-use Rattle.replica.specs.WellFormed.{Fine, sound}
+use Rattle.dots.specs.Dot.{actor_of}
+use Rattle.dots.specs.Clock.{Clock, count, covers, applied}
+use Rattle.replica.specs.Replica.{Entry, Replica, wait_at, holds, seen, killed}
+use Rattle.replica.specs.Rules.{takes, settled}
+use Rattle.replica.specs.WellFormed.{sound}
 use Rattle.replica.specs.Listed.{listed}
 
 -- ---- each listed member's clock takes the dot

@@ -1,20 +1,12 @@
 -- The rule for merge says what the merge is to say, point by point; and it is `by_dots`, which takes for each member and actor the dot that lives.
-use Rattle.std.specs.Prelude.{ℕ, suc, ◌≤◌, max, ◌≡◌, refl, Bool, true, false, ◌&&◌, ◌||◌, List}
-use Rattle.std.proofs.Common.{sym, ◌∙◌, arith}
-use Rattle.std.proofs.Math.Path.{ap, ap₂}
-use Rattle.std.proofs.Math.Bool.{not, and-true}
-use Rattle.std.proofs.Math.Option.{Option, none}
-use Rattle.std.proofs.Math.Dec.{eqb}
-use Rattle.tables.specs.Table.{get, join, pick, pick_all, ext, normal_join, get_join}
+use Rattle.std.specs.Prelude.{ℕ}
+use Rattle.std.proofs.Math.Option.{none}
+use Rattle.tables.specs.Table.{join, pick}
 use Rattle.dots.specs.Dot.{clocks}
-use Rattle.dots.specs.Clock.{Clock, count, covers, merged}
-use Rattle.dots.specs.ClockLaws.{merged_count, merged_normal, dots_ext}
-use Rattle.replica.specs.Replica.{Entry, Replica, entries, waits, entry, wait_at, holds, seen, killed}
-use Rattle.replica.specs.Rules.{unite, settle, stay, stay_at, staying, together, merge}
-use Rattle.replica.specs.OneDot.{kept_one}
-use Rattle.replica.specs.Removes.{FineEntries}
-use Rattle.replica.specs.WellFormed.{Fine}
-use Rattle.replica.specs.Merged.{Merged, live}
+use Rattle.dots.specs.Clock.{count, covers, merged}
+use Rattle.replica.specs.Replica.{Replica, entries, waits, entry, wait_at}
+use Rattle.replica.specs.Rules.{unite}
+use Rattle.replica.specs.Merged.{live}
 
 -- ---- the replica with the dots that live
 

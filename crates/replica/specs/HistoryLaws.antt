@@ -1,11 +1,7 @@
 -- A history of events whose arguments are well-formed takes well-formed replicas to well-formed ones, limits aside.
-use Rattle.std.specs.Prelude.{◌≡◌, refl, Bool, true, false, List, [], ◌∷◌, T}
-use Rattle.tables.specs.Truth.{and_l, and_r}
-use Rattle.tables.specs.Table.{pick, every}
-use Rattle.dots.specs.Clock.{normal, covers}
-use Rattle.replica.specs.Replica.{Replica}
-use Rattle.replica.specs.Rules.{add}
-use Rattle.replica.specs.History.{Add, Remove, apply, Event, Apply, MergeWith, MergeInto, Reset, step, run, judged}
+use Rattle.std.specs.Prelude.{Bool, true}
+use Rattle.dots.specs.Clock.{normal}
+use Rattle.replica.specs.History.{Add, Remove, Event, Apply, MergeWith, MergeInto, Reset}
 use Rattle.replica.specs.WellFormed.{sound}
 
 -- the event's arguments are well-formed: a remove's clock is normalised, and the other replica of a merge well-formed, limits aside

@@ -1,7 +1,6 @@
 -- "Limits are judged on the finished result, never on a step between": a judge is any function that gives a finished replica a number, 0 where it
 -- grants it. `broken` of Limits.antt is one.
-use Rattle.std.specs.Prelude.{ℕ, zero, suc, ◌<◌, ◌≡◌, refl}
-use Rattle.std.proofs.Common.{◌∙◌, arith}
+use Rattle.std.specs.Prelude.{ℕ, zero, suc}
 use Rattle.replica.specs.Replica.{Replica}
 use Rattle.replica.specs.Rules.{merge}
 

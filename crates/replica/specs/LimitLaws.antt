@@ -1,21 +1,11 @@
 -- Which limits an operation can break, and that what is granted is well-formed, limits included.
-use Rattle.std.specs.Prelude.{ℕ, suc, ◌+◌, ◌≤◌, ◌≡◌, refl, ◌⊎◌, Bool, ◌&&◌, List, [], ◌∷◌, T, leb, ltb, eqb, length}
-use Rattle.std.proofs.Common.{ap, subst, inl, inr, le_trans, arith, leb→le, le-ltb, eqb-true}
-use Rattle.std.proofs.Math.Bool.{true, false}
-use Rattle.std.proofs.lemmas.Bool.{false≢true}
-use Rattle.std.proofs.Math.Option.{none, some}
-use Rattle.tables.specs.Table.{All, every, any, none_any, all_map, get, is_some, all_sift, pick}
-use Rattle.tables.specs.Truth.{and_l, and_r}
-use Rattle.tables.specs.Walk.{length_collect}
-use Rattle.tables.specs.Refusal.{first_of}
-use Rattle.dots.specs.declared.Dot.{Dot}
-use Rattle.dots.specs.Clock.{normal, merged, Clock, covers_dot, covers, applied, reset_by}
-use Rattle.replica.specs.Replica.{Entry, Wait, Replica, entry?, member_sets, waits}
-use Rattle.replica.specs.Rules.{unite, uncovered, join_waits, set_of, remove_from, settle, takes, add, remove, merge, rewait, reset_waits, reset}
-use Rattle.replica.specs.Limits.{Limits, limits_of, broken, well_formed, Within}
-use Rattle.replica.specs.Judge.{granted, merge_by}
-use Rattle.replica.specs.History.{Add, Remove, apply, Event, Apply, MergeWith, MergeInto, Reset, step, judged}
-use Rattle.replica.specs.HistoryLaws.{fair}
+use Rattle.std.specs.Prelude.{ℕ, ◌≤◌, Bool, ◌&&◌, leb, eqb, length}
+use Rattle.std.proofs.Math.Bool.{true}
+use Rattle.tables.specs.Table.{pick}
+use Rattle.dots.specs.Clock.{normal}
+use Rattle.replica.specs.Replica.{Wait, Replica}
+use Rattle.replica.specs.Limits.{Limits, broken, well_formed}
+use Rattle.replica.specs.History.{Add, Remove, Event, Apply, MergeWith, MergeInto, Reset, step}
 
 -- ---- the clocks of waiting removes
 

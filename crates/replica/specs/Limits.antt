@@ -1,16 +1,10 @@
 -- The limits of a finished replica, and which of them it breaks first. Operations know no limits; a judge looks at what they give.
-use Prim.Native.Nat.{ℕ, ◌≤◌, ◌<◌, compare}
-use Rattle.std.specs.Prelude.{◌≡◌, ◌↔◌, Bool, true, false, ◌&&◌, List, [], ◌∷◌, leb, ltb, eqb}
-use native.Mathlib.Omega.{arith}
-use Rattle.std.proofs.Math.Dec.{T, leb→le, le→leb, eqb→eq}
+use Prim.Native.Nat.{ℕ, ◌≤◌}
+use Rattle.std.specs.Prelude.{Bool, ◌&&◌, List, [], ◌∷◌, leb, ltb, eqb}
 use Rattle.std.proofs.Math.ListN.{length}
-use Rattle.std.proofs.Common.{ltb-false, le-ltb, eq-eqb}
-use Rattle.tables.specs.Order.{nat_order}
-use Rattle.tables.specs.Ascending.{ascending, before}
-use Rattle.tables.specs.Truth.{and_l, and_r, and_i}
-use Rattle.tables.specs.Table.{All, any, every, all_map, any_none, none_any, every_all, all_every}
-use Rattle.tables.specs.Refusal.{Refusal, ◌if◌, first_of, First}
-use Rattle.replica.specs.Replica.{Wait, Replica}
+use Rattle.tables.specs.Table.{All, any, every}
+use Rattle.tables.specs.Refusal.{Refusal, ◌if◌, first_of}
+use Rattle.replica.specs.Replica.{Replica}
 use Rattle.replica.specs.WellFormed.{sound}
 
 pub record Limits : Type 0 where

@@ -1,21 +1,10 @@
 -- Which members a merge has, in words.
-use Prim.Native.Nat.{ℕ, zero, suc, ◌≤◌, ◌<◌, compare}
-use Rattle.std.specs.Prelude.{◌≡◌, refl, ◌↔◌, ◌⊎◌, Bool, true, false, not, ◌||◌, List, [], ◌∷◌, T, leb, eqb}
-use Rattle.std.proofs.Common.{sym, ap, ◌∙◌, inl, inr, arith, not-suc-le-zero, T_not, leb→le, eqb→eq, eq-eqb}
-use Rattle.std.proofs.lemmas.Bool.{false≢true}
-use Rattle.std.proofs.Math.Option.{Option, none, some}
-use Rattle.std.proofs.Math.Arith.{lt→nleb}
-use Rattle.std.proofs.Math.Dec.{not_T, nleb→lt, eqb-zero-suc}
-use Rattle.tables.specs.Order.{nat_order, self}
-use Rattle.tables.specs.Truth.{and_l, and_r, and_i, or_l, or_r, or_e, nor_l, nor_r, nor_i}
-use Rattle.tables.specs.Table.{get, Normal, Proper, is_some, row_at, all_at}
-use Rattle.dots.specs.Dot.{clocks, dot?, actor_of}
+use Prim.Native.Nat.{ℕ, ◌<◌}
+use Rattle.std.specs.Prelude.{◌≡◌, ◌⊎◌, List, T}
+use Rattle.std.proofs.Math.Option.{some}
+use Rattle.tables.specs.Table.{get}
 use Rattle.dots.specs.Clock.{Clock, count}
-use Rattle.replica.specs.Replica.{Entry, Replica, entries, member_sets, entry?, clock_of, entry, wait_at, names, is_in, holds, seen, killed}
-use Rattle.replica.specs.Rules.{stay}
-use Rattle.replica.specs.OneDot.{stays}
-use Rattle.replica.specs.WellFormed.{Fine}
-use Rattle.replica.specs.Merged.{Merged, live}
+use Rattle.replica.specs.Replica.{Replica, member_sets, entry, wait_at}
 
 -- ---- in words
 

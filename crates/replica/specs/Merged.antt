@@ -1,20 +1,12 @@
 -- What the merge of two replicas says, point by point. There is only one such replica; and by what it says, the sides may be swapped and
 -- merges grouped at will, and a settled replica is its own merge.
 use Prim.Native.Nat.{ℕ, suc, max}
-use Rattle.std.specs.Prelude.{◌≡◌, Bool, not, ◌&&◌, ◌||◌, leb}
-use Rattle.std.proofs.Math.Path.{refl, sym, ap, ap₂}
-use Rattle.std.proofs.Common.{◌∙◌, arith, le_trans, T_not, eqb→eq, leb→le, le→leb}
-use Rattle.std.proofs.Math.Bool.{true, false}
-use Rattle.std.proofs.Math.Option.{none, some}
-use Rattle.std.proofs.Math.Dec.{T, not_T}
-use Rattle.tables.specs.Truth.{imp, pm, and_i, or_l, or_r, or_e}
-use Rattle.tables.specs.Table.{any, pick, pick_both, row_at, key_at, at_any, by_row}
+use Rattle.std.specs.Prelude.{◌≡◌, Bool, not, ◌&&◌, ◌||◌}
+use Rattle.std.proofs.Math.Option.{none}
+use Rattle.tables.specs.Table.{pick}
 use Rattle.dots.specs.Clock.{Clock, count, covers}
-use Rattle.dots.specs.ClockLaws.{clock_ext, covers_le, not_covers, leb_max}
-use Rattle.replica.specs.Replica.{Wait, Replica, waits, entry, wait_at, names, holds, seen, killed}
-use Rattle.replica.specs.Rules.{unite, stay, settled}
-use Rattle.replica.specs.OneDot.{lives, sane, rest}
-use Rattle.replica.specs.Waits.{Sets}
+use Rattle.replica.specs.Replica.{Replica, wait_at, holds, killed}
+use Rattle.replica.specs.Rules.{unite, stay}
 use Rattle.replica.specs.WellFormed.{Fine}
 
 -- the dot (a, n) of m stays, and no waiting remove of either side that names m covers it

@@ -1,12 +1,8 @@
 -- What becomes of one dot of one member. In Booleans: `h` says that a side holds it, `s` that its clock has seen it, `k` that a waiting remove that
 -- names the member covers it. In numbers: `e` and `f` are the counters that two entries have for an actor, `v` and `w` those of the clocks.
-use Rattle.std.specs.Prelude.{ℕ, suc, ◌≤◌, ◌<◌, ◌≡◌, refl, Bool, true, false, not, ◌&&◌, ◌||◌, List, [], ◌∷◌, T, leb, eqb}
-use Rattle.std.proofs.Common.{ap, ap₂, ◌∙◌, arith, eqb-true, leb-false, eq-eqb, ne_eqb, le-leb}
-use Rattle.std.specs.Bool.{beq}
-use Rattle.std.proofs.Math.Dec.{eqb-zero-suc}
-use Rattle.std.proofs.lemmas.Bool.{not-true}
-use Rattle.tables.specs.Truth.{Test, table, imp, mp, and_l, beq→eq}
-use Rattle.tables.specs.Table.{All, alls, alls_to, pick}
+use Rattle.std.specs.Prelude.{ℕ, Bool, not, ◌&&◌, ◌||◌}
+use Rattle.tables.specs.Truth.{imp}
+use Rattle.tables.specs.Table.{pick}
 
 -- "a dot stays in a member's entry if both hold it, or one holds it and the other's V doesn't cover it"
 abbrev pub stays : Bool → Bool → Bool → Bool → Bool

@@ -1,7 +1,7 @@
 -- What `contains`, `read` and `read_ctx` answer, on replicas.
 use Rattle.std.specs.Prelude.{ℕ, Bool, List, map}
 use Rattle.dots.specs.Clock.{Clock}
-use Rattle.replica.specs.Replica.{Replica, entries, entry, is_in}
+use Rattle.replica.specs.Replica.{Replica, entry, is_in}
 
 -- "A read context is its add clock, remove clock and answer."
 pub record Read (X : Type 0) : Type 0 where

@@ -1,20 +1,11 @@
 -- What a remove does, dot by dot.
-use Prim.Native.Nat.{ℕ, suc, Ordering}
-use Rattle.std.specs.Prelude.{◌≡◌, refl, ◌≢◌, Bool, true, false, not, ◌&&◌, ◌||◌, List, [], ◌∷◌, T, leb, eqb}
-use Rattle.std.proofs.Common.{sym, ap, ap₂, ◌∙◌, subst, le_trans, T_not}
-use Rattle.std.proofs.Math.Bool.{or-false, and-true}
-use Rattle.std.proofs.lemmas.Bool.{false≢true}
-use Rattle.std.proofs.Math.Option.{Option, none, some}
-use Rattle.std.proofs.Math.Dec.{leb-suc-zero}
-use Rattle.tables.specs.Truth.{and_l, and_r, or_e}
-use Rattle.tables.specs.Table.{get, Normal, pick, is_some, any, hit}
-use Rattle.dots.specs.Dot.{clocks}
-use Rattle.dots.specs.Clock.{Clock, count, normal, covers, cmp_clock, clock_order}
-use Rattle.dots.specs.ClockLaws.{normal_from, normal_to, normal_empty}
-use Rattle.replica.specs.Replica.{Wait, Replica, entries, waits, member_sets, members_of, entry, wait_at, holds, kills, killed}
-use Rattle.replica.specs.Rules.{set_of, unite, join_waits, remove_from, remove}
-use Rattle.replica.specs.WellFormed.{Fine, sound}
-use Rattle.replica.specs.Removes.{FineEntries}
+use Prim.Native.Nat.{ℕ, suc}
+use Rattle.std.specs.Prelude.{◌≡◌, true, false, not, ◌&&◌, ◌||◌, List, T, leb}
+use Rattle.std.proofs.Math.Option.{some}
+use Rattle.dots.specs.Clock.{Clock, count, covers}
+use Rattle.replica.specs.Replica.{Wait, Replica, wait_at, holds, killed}
+use Rattle.replica.specs.Rules.{set_of, unite}
+use Rattle.replica.specs.WellFormed.{sound}
 use Rattle.replica.specs.Listed.{listed}
 
 -- the waiting remove that it may become

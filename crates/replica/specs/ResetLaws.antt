@@ -1,20 +1,13 @@
 -- What a reset does, dot by dot.
-use Prim.Native.Nat.{ℕ, suc, ◌≤◌, Ordering}
-use Rattle.std.specs.Prelude.{◌≡◌, refl, ◌≢◌, Bool, true, false, not, ◌&&◌, ◌||◌, List, [], ◌∷◌, T, leb, ltb, eqb}
-use Rattle.std.proofs.Common.{sym, ap, ap₂, ◌∙◌, subst, arith, leb-true, leb-false, lt-ltb, le-ltb}
-use Rattle.std.proofs.Math.Bool.{and-false, and-true, or-false}
-use Rattle.std.proofs.lemmas.Bool.{false≢true}
-use Rattle.std.proofs.Math.Option.{Option, none, some}
-use Rattle.std.proofs.Math.Dec.{compare_is_eq, leb-suc-zero}
-use Rattle.tables.specs.Truth.{and_l}
-use Rattle.tables.specs.Table.{All, get, Normal, pick, is_some, any, hit, at_all, normal_sift, get_sift}
+use Prim.Native.Nat.{ℕ, suc}
+use Rattle.std.specs.Prelude.{◌≡◌, ◌≢◌, Bool, not, ◌&&◌, List, [], ◌∷◌, T, leb, ltb}
+use Rattle.std.proofs.Math.Dec.{compare_is_eq}
+use Rattle.tables.specs.Table.{get, Normal, pick, is_some, any}
 use Rattle.dots.specs.declared.Dot.{Dot}
 use Rattle.dots.specs.Dot.{clocks}
-use Rattle.dots.specs.Clock.{Clock, count, filled, reset_by, cmp_clock, clock_order}
-use Rattle.dots.specs.ClockLaws.{reset_normal, reset_count, reset_dot}
-use Rattle.replica.specs.Replica.{Wait, Replica, entry?, entries, waits, member_sets, members_of, entry, wait_at, names, holds, kills, killed}
-use Rattle.replica.specs.Rules.{rewait, reset_waits, reset}
-use Rattle.replica.specs.WellFormed.{Fine, sound}
+use Rattle.dots.specs.Clock.{Clock, count, filled, reset_by, cmp_clock}
+use Rattle.replica.specs.Replica.{Wait, Replica, member_sets, wait_at, names, holds, kills, killed}
+use Rattle.replica.specs.WellFormed.{sound}
 
 -- ---- waiting removes
 

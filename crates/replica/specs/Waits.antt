@@ -1,17 +1,10 @@
 -- Waiting removes, as clocks that name members: which dots they cover, and what joining two lists of them "by equal clock" gives.
-use Rattle.std.specs.Prelude.{ℕ, ◌≡◌, refl, ◌≢◌, Bool, true, false, ◌||◌, List, [], ◌∷◌, T, leb}
-use Rattle.std.proofs.Common.{sym, ap, ◌∙◌, subst}
-use Rattle.std.proofs.Math.Bool.{or-false, or_comm, or_assoc, or_self}
-use Rattle.std.proofs.lemmas.Bool.{false≢true}
-use Rattle.std.proofs.Math.Option.{Option, none, some}
-use Rattle.tables.specs.Order.{self}
-use Rattle.tables.specs.Truth.{and_l, and_r, and_i, or_l, or_r, or_e, bool_ext}
-use Rattle.tables.specs.Table.{get, Normal, any, pick, is_some, row_at, key_at, any_at, at_any, ext}
-use Rattle.tables.specs.Zip.{zip, get_zip, normal_zip}
+use Rattle.std.specs.Prelude.{ℕ, ◌≡◌, ◌≢◌, List, [], T, leb}
+use Rattle.std.proofs.Math.Option.{Option, some}
+use Rattle.tables.specs.Table.{get, Normal}
 use Rattle.dots.specs.Dot.{clocks}
-use Rattle.dots.specs.Clock.{Clock, count, cmp_clock, clock_order}
-use Rattle.replica.specs.Replica.{Wait, Replica, waits, members_of, member_sets, wait_at, names, kills, killed}
-use Rattle.replica.specs.Rules.{unite, join_waits}
+use Rattle.dots.specs.Clock.{Clock, count}
+use Rattle.replica.specs.Replica.{Wait, waits, member_sets, names}
 
 -- ---- which dots they cover
 

@@ -1,21 +1,12 @@
 -- Well-formed, limits aside: the computed test `sound`, the pointwise facts `Fine`, and that the two say the same. Limits.antt adds the limits.
-use Prim.Native.Nat.{ℕ, zero, suc, ◌≤◌, ◌<◌, compare}
-use Rattle.std.specs.Prelude.{◌≡◌, Bool, not, ◌||◌, List, [], ◌∷◌, map, leb, ltb}
-use Rattle.std.proofs.Math.Path.{refl, ap, subst}
-use Rattle.std.proofs.Common.{sym, ◌∙◌, arith, T_not, leb→le, lt→ltb, ltb→lt, eqb→eq, eq-eqb}
-use Rattle.std.proofs.Math.Bool.{true, false}
-use Rattle.std.proofs.lemmas.Bool.{false≢true}
-use Rattle.std.proofs.Math.Option.{some}
-use Rattle.std.proofs.Math.Dec.{T, nleb→lt}
-use Rattle.tables.specs.Order.{nat_order}
-use Rattle.tables.specs.Truth.{and_l, and_r, or_e}
-use Rattle.tables.specs.Table.{get, Normal, Proper, is_some, every, alls, alls_from, alls_to, All, all_map, all_any, any_from, every_all, map_id, row_at, key_at, by_row, all_at, every_at, at_every, ext}
+use Prim.Native.Nat.{ℕ, suc, ◌≤◌, compare}
+use Rattle.std.specs.Prelude.{Bool, not, ◌||◌, List, [], ◌∷◌, map, ltb}
+use Rattle.std.proofs.Math.Dec.{T}
+use Rattle.tables.specs.Table.{get, Normal, every, alls}
 use Rattle.tables.specs.Ascending.{ascending}
-use Rattle.dots.specs.declared.Dot.{Dot}
-use Rattle.dots.specs.Dot.{clocks, dot?, counter_of, actor_of}
-use Rattle.dots.specs.Clock.{Clock, count, covers, cmp_clock, clock_order, normal, filled}
-use Rattle.dots.specs.ClockLaws.{clock_ext, dots_ext, normal_from, normal_to, normal_empty, filled_from, filled_to, covers_le, le_covers}
-use Rattle.replica.specs.Replica.{Entry, Wait, Replica, entries, waits, member_sets, entry?, clock_of, members_of, entry, wait_at, holds, kills, killed}
+use Rattle.dots.specs.Dot.{clocks, actor_of}
+use Rattle.dots.specs.Clock.{Clock, count, covers, cmp_clock, normal, filled}
+use Rattle.replica.specs.Replica.{Entry, Wait, Replica, entries, waits, member_sets, entry, wait_at, holds, killed}
 use Rattle.replica.specs.Waits.{GoodWait, Each}
 
 -- ---- the test

@@ -1,6 +1,6 @@
 -- What is proved of specs/Ascending.antt.
 use Prim.Native.Nat.{Ordering}
-use Rattle.std.specs.Prelude.{◌≡◌, refl, Bool, true, false, ◌&&◌, T}
+use Rattle.std.specs.Prelude.{◌≡◌, refl, T}
 use mathlib.Core.List.{List, [], ◌∷◌}
 use Rattle.tables.specs.Order.{Order}
 use Rattle.tables.specs.Truth.{and_l, and_r, and_i}

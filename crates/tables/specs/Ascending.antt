@@ -1,10 +1,7 @@
 -- "Ascending means strictly so, nothing twice": the computed test, and that it is `Asc`.
 use Prim.Native.Nat.{Ordering}
-use Rattle.std.specs.Prelude.{◌≡◌, refl, Bool, true, false, ◌&&◌, T}
+use Rattle.std.specs.Prelude.{Bool, true, false, ◌&&◌}
 use mathlib.Core.List.{List, [], ◌∷◌}
-use Rattle.tables.specs.Order.{Order}
-use Rattle.tables.specs.Truth.{and_l, and_r, and_i}
-use Rattle.tables.specs.Table.{Asc, Below, below_trans}
 
 abbrev pub is_lt : Ordering → Bool
 is_lt Ordering.lt = true

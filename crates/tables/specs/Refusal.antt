@@ -1,10 +1,7 @@
 -- "The lowest number that applies is given": refusals as an ordered list of conditions, and the number of the first that holds.
-use Prim.Native.Nat.{ℕ, ◌≤◌, ◌<◌, compare}
-use Rattle.std.specs.Prelude.{◌≡◌, refl, ◌↔◌, Bool, true, false, List, [], ◌∷◌, ◌++◌, map, eqb}
-use Rattle.std.proofs.Common.{sym, ap, ◌∙◌, arith, ne_eqb}
-use Rattle.std.proofs.lemmas.Bool.{false≢true}
-use Rattle.tables.specs.Order.{nat_lt}
-use Rattle.tables.specs.Table.{pick, All, all_map, Asc, Below}
+use Prim.Native.Nat.{ℕ, ◌<◌}
+use Rattle.std.specs.Prelude.{◌≡◌, Bool, true, false, List, [], ◌∷◌, ◌++◌}
+use Rattle.tables.specs.Table.{pick, All}
 
 pub record Refusal : Type 0 where
   pub number : ℕ

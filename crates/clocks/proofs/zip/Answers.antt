@@ -1,5 +1,4 @@
 use Rattle.clocks.proofs.Answers.{zip-is}
-use borrow.Author.Rules.{rules}
 use Rattle.clocks.proofs.zip.Goals as goal
 
 pub returns : goal.returns

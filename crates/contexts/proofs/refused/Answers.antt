@@ -1,4 +1,3 @@
-use borrow.Author.Rules.{rules}
 use Rattle.contexts.proofs.refused.Goals as goal
 
 -- `contexts::refused` meets its contract.

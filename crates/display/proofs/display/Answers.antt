@@ -1,5 +1,4 @@
 use native.Mathlib.Omega.{arith}
-use borrow.Author.Rules.{rules}
 use Rattle.clocks.specs.VClock.{few}
 use Rattle.clocks.proofs.Steps.{so}
 use Rattle.display.proofs.Steps.{not_normal, too_short, in_full}

@@ -1,6 +1,5 @@
 use native.Mathlib.Omega.{arith}
 use Rattle.display.proofs.Steps.{length_first, length_later}
-use borrow.Author.Rules.{rules}
 use Rattle.display.proofs.item_len.Goals as goal
 
 -- `display::item_len` meets its contract.

@@ -1,11 +1,7 @@
-use native.Mathlib.Nat.{add-zero}
-use mathlib.Core.Path.{◌≡◌, refl, sym, ◌∙◌}
+use mathlib.Core.Path.{◌≡◌}
 use Prim.Native.Nat.{◌+◌, ◌-◌, ◌≤◌}
-use native.Mathlib.Omega.{arith}
-use lib.ListN.{length, drop, length-set}
+use lib.ListN.{length, drop}
 use lib.Seq.{sets}
-use Rattle.display.proofs.Steps.{copy_step, copy_end}
-use borrow.Author.Rules.{rules}
 use Rattle.display.proofs.put.Given as goal
 
 -- `display::put` meets its contract. The invariant: the output with the bytes ahead stored is the whole.

@@ -1,9 +1,6 @@
 use mathlib.Core.Path.{◌≡◌, refl, ◌∙◌}
-use Prim.Native.Nat.{◌+◌, ◌≤◌}
 use native.Mathlib.Omega.{arith}
-use lib.ListN.{length, length-set}
-use lib.Seq.{sets}
-use Rattle.display.specs.Text.{digits}
+use lib.ListN.{length-set}
 use Rattle.display.specs.Laws.{length_digits}
 use Rattle.display.proofs.Steps.{spell_step}
 use borrow.Author.Rules.{rules}

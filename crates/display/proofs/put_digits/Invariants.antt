@@ -1,12 +1,8 @@
-use mathlib.Core.Path.{◌≡◌, refl, ◌∙◌}
+use mathlib.Core.Path.{◌≡◌}
 use Prim.Native.Nat.{◌+◌, ◌≤◌}
-use native.Mathlib.Omega.{arith}
-use lib.ListN.{length, length-set}
+use lib.ListN.{length}
 use lib.Seq.{sets}
 use Rattle.display.specs.Text.{digits}
-use Rattle.display.specs.Laws.{length_digits}
-use Rattle.display.proofs.Steps.{spell_step}
-use borrow.Author.Rules.{rules}
 use Rattle.display.proofs.put_digits.Given as goal
 
 -- `display::put_digits` meets its contract. The invariant: the output with the digits ahead, those on the left, stored is the whole.

@@ -1,5 +1,4 @@
 use mathlib.Core.List.{◌++◌}
-use borrow.Author.Rules.{rules}
 use Rattle.display.specs.Text.{colon, decimal}
 use Rattle.display.proofs.Steps.{dot_parts, room_first, room_then, put_then}
 use Rattle.display.proofs.put_dot.Goals as goal

@@ -1,4 +1,3 @@
-use borrow.Author.Rules.{rules}
 use Rattle.display.proofs.Steps.{item_first, item_later}
 use Rattle.display.proofs.put_item.Goals as goal
 

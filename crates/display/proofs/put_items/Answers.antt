@@ -1,12 +1,6 @@
-use Prim.Native.Nat.{ℕ, ◌-◌, ◌≤◌}
 use mathlib.Core.Path.{◌≡◌, refl}
-use mathlib.Core.List.{List}
 use native.Mathlib.Omega.{arith}
-use lib.ListN.{length, take}
-use lib.Seq.{slice}
-use Rattle.clocks.proofs.Steps.{mapped}
-use Rattle.display.specs.Put.{Room, Put}
-use Rattle.display.specs.Text.{items}
+use lib.ListN.{length}
 use Rattle.display.proofs.Steps.{room_first, room_then, put_then, put_nothing, items_step, items_end}
 use borrow.Author.Rules.{rules}
 use Rattle.display.proofs.put_items.Goals as goal

@@ -1,4 +1,3 @@
-use borrow.Author.Rules.{rules}
 use Rattle.display.specs.Text.{decimal}
 use Rattle.display.proofs.Steps.{room_first, room_then, put_then}
 use Rattle.display.proofs.put_number.Goals as goal

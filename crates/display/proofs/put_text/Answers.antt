@@ -1,5 +1,4 @@
 use mathlib.Core.List.{◌++◌}
-use borrow.Author.Rules.{rules}
 use Rattle.clocks.specs.VClock.{dots_of}
 use Rattle.display.specs.Text.{opening, closing, items, text}
 use Rattle.display.proofs.Steps.{room_first, room_then, put_then}

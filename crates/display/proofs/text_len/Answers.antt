@@ -1,10 +1,6 @@
 use mathlib.Core.Path.{◌≡◌}
-use Prim.Native.Nat.{◌+◌, ◌*◌, ◌-◌, ◌≤◌}
 use native.Mathlib.Omega.{arith}
 use lib.ListN.{length, take, length-append}
-use lib.Seq.{slice}
-use Rattle.clocks.proofs.Steps.{mapped}
-use Rattle.display.specs.Text.{items}
 use Rattle.display.proofs.Steps.{items_step, items_end, length_text}
 use borrow.Author.Rules.{rules}
 use Rattle.display.proofs.text_len.Goals as goal

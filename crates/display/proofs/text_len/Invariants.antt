@@ -1,12 +1,8 @@
 use mathlib.Core.Path.{◌≡◌}
 use Prim.Native.Nat.{◌+◌, ◌*◌, ◌-◌, ◌≤◌}
-use native.Mathlib.Omega.{arith}
-use lib.ListN.{length, take, length-append}
+use lib.ListN.{length, take}
 use lib.Seq.{slice}
-use Rattle.clocks.proofs.Steps.{mapped}
 use Rattle.display.specs.Text.{items}
-use Rattle.display.proofs.Steps.{items_step, items_end, length_text}
-use borrow.Author.Rules.{rules}
 use Rattle.display.proofs.text_len.Given as goal
 
 -- `display::text_len` meets its contract. The invariant: the length so far and that of what is ahead are the whole.

@@ -1,7 +1,5 @@
-use mathlib.Core.Path.{◌≡◌, refl, ◌∙◌}
-use Prim.Native.Nat.{◌+◌, ◌-◌, ◌^◌, ◌≤◌, ◌<◌}
+use mathlib.Core.Path.{refl, ◌∙◌}
 use native.Mathlib.Omega.{arith}
-use Rattle.display.specs.Text.{width_within}
 use Rattle.display.proofs.Steps.{few_left, less_left, width_step, width_done}
 use borrow.Author.Rules.{rules}
 use Rattle.display.proofs.width_of.Goals as goal

@@ -1,9 +1,6 @@
-use mathlib.Core.Path.{◌≡◌, refl, ◌∙◌}
+use mathlib.Core.Path.{◌≡◌}
 use Prim.Native.Nat.{◌+◌, ◌-◌, ◌^◌, ◌≤◌, ◌<◌}
-use native.Mathlib.Omega.{arith}
 use Rattle.display.specs.Text.{width_within}
-use Rattle.display.proofs.Steps.{few_left, less_left, width_step, width_done}
-use borrow.Author.Rules.{rules}
 use Rattle.display.proofs.width_of.Given as goal
 
 -- `display::width_of` meets its contract. The invariant: the digits counted and those ahead are the whole, and what is left has few enough.

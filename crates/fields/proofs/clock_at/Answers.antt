@@ -7,10 +7,10 @@ use Rattle.fields.specs.Read.{clock_read}
 use Rattle.layout.specs.Clock.{dots_at, dot_in}
 use Rattle.clocks.specs.VClock.{vclock}
 use lib.Seq.{sets}
-use lib.ListN.{length, length-set}
+use lib.ListN.{length-set}
 use native.Mathlib.Nat.{sub-zero}
 use native.Mathlib.Omega.{arith}
-use Prim.Native.Nat.{ℕ, ◌+◌, ◌*◌, ◌-◌, ◌≤◌}
+use Prim.Native.Nat.{ℕ, ◌+◌, ◌-◌}
 use mathlib.Core.Path.{◌≡◌, refl, sym, ap, ◌∙◌}
 use borrow.Author.Rules.{rules}
 use Rattle.fields.proofs.clock_at.Goals as goal

@@ -1,18 +1,8 @@
-use Rattle.layout.specs.Fields.{u32_at}
-use Rattle.dots.specs.Dot.{no_dot}
-use lib.ListN.{replicate}
-use Prim.Native.Nat.{min}
-use Rattle.fields.proofs.Steps.{read_past, load_step, load_end, length_dots_at}
-use Rattle.fields.specs.Read.{clock_read}
-use Rattle.layout.specs.Clock.{dots_at, dot_in}
-use Rattle.clocks.specs.VClock.{vclock}
+use Rattle.layout.specs.Clock.{dots_at}
 use lib.Seq.{sets}
-use lib.ListN.{length, length-set}
-use native.Mathlib.Nat.{sub-zero}
-use native.Mathlib.Omega.{arith}
-use Prim.Native.Nat.{ℕ, ◌+◌, ◌*◌, ◌-◌, ◌≤◌}
-use mathlib.Core.Path.{◌≡◌, refl, sym, ap, ◌∙◌}
-use borrow.Author.Rules.{rules}
+use lib.ListN.{length}
+use Prim.Native.Nat.{◌+◌, ◌*◌, ◌-◌, ◌≤◌}
+use mathlib.Core.Path.{◌≡◌}
 use Rattle.fields.proofs.clock_at.Given as goal
 
 abbrev pub invariant-loop-i : goal.invariant-loop-i

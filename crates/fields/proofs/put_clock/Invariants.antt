@@ -1,15 +1,8 @@
-use Rattle.fields.proofs.Steps.{put_none, put_done}
-use Rattle.clocks.proofs.Steps.{mapped}
-use Rattle.dots.specs.Dot.{no_dot}
-use lib.ListN.{get_or}
-use Rattle.fields.proofs.Steps.{store_step, store_end}
 use Rattle.layout.specs.Clock.{encode_dots}
 use lib.Seq.{sets}
 use lib.ListN.{length, take, drop}
-use native.Mathlib.Omega.{arith}
 use Prim.Native.Nat.{◌+◌, ◌*◌, ◌-◌, ◌≤◌}
-use mathlib.Core.Path.{◌≡◌, refl, sym, ◌∙◌}
-use borrow.Author.Rules.{rules}
+use mathlib.Core.Path.{◌≡◌}
 use Rattle.fields.proofs.put_clock.Given as goal
 
 abbrev pub invariant-loop-i : goal.invariant-loop-i

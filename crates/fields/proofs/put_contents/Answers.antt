@@ -1,5 +1,4 @@
 use Rattle.fields.proofs.Steps.{contents_are}
-use borrow.Author.Rules.{rules}
 use Rattle.fields.proofs.put_contents.Goals as goal
 
 pub returns : goal.returns

@@ -1,5 +1,4 @@
 use Rattle.fields.proofs.Steps.{row_none, row_done, put_short}
-use Rattle.clocks.proofs.Steps.{mapped}
 use lib.ListN.{length}
 use native.Mathlib.Omega.{arith}
 use mathlib.Core.Path.{◌≡◌}

@@ -1,4 +1,3 @@
-use borrow.Author.Rules.{rules}
 use Rattle.in_place.proofs.merged_or_kept.Goals as goal
 
 -- `in_place::merged_or_kept` meets its contract.

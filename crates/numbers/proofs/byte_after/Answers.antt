@@ -2,7 +2,6 @@ use Prim.Native.Nat.{◌+◌}
 use lib.ListN.{get_or-eq_default}
 use native.Mathlib.Omega.{arith}
 use mathlib.Core.Path.{sym}
-use borrow.Author.Rules.{rules}
 use Rattle.numbers.proofs.byte_after.Goals as goal
 
 pub returns-then-s-at : goal.returns-then-s-at

@@ -1,5 +1,4 @@
 use Rattle.numbers.proofs.Edge.{u32_bytes}
-use borrow.Author.Rules.{rules}
 use Rattle.numbers.proofs.load_edge.Goals as goal
 
 pub returns : goal.returns

@@ -1,7 +1,6 @@
 use lib.Seq.{set_out}
 use native.Mathlib.Omega.{arith}
 use mathlib.Core.Path.{sym}
-use borrow.Author.Rules.{rules}
 use Rattle.numbers.proofs.put_after.Goals as goal
 
 pub returns-then-s-at : goal.returns-then-s-at

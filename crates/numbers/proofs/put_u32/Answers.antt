@@ -1,7 +1,6 @@
 use borrow.Author.Tests.{leb-true}
 use native.Mathlib.Nat.{add-zero}
 use mathlib.Core.Path.{sym, ◌∙◌}
-use borrow.Author.Rules.{rules}
 use Rattle.numbers.proofs.put_u32.Goals as goal
 
 pub store-requires : goal.store-requires

@@ -12,7 +12,6 @@ use borrow.Author.Tests.{leb-true}
 use native.Mathlib.Omega.{arith}
 use native.Mathlib.Nat.{add-zero}
 use mathlib.Core.Path.{sym, ◌∙◌}
-use borrow.Author.Rules.{rules}
 use Rattle.numbers.proofs.put_u64.Goals as goal
 
 pub store-requires : goal.store-requires

@@ -4,7 +4,6 @@ use Rattle.numbers.proofs.Edge.{room_left}
 use borrow.Author.Tests.{lt-leb}
 use native.Mathlib.Omega.{arith}
 use mathlib.Core.Path.{sym}
-use borrow.Author.Rules.{rules}
 use Rattle.numbers.proofs.room.Goals as goal
 
 pub returns-then-s-n : goal.returns-then-s-n

@@ -2,7 +2,6 @@ use native.Mathlib.Numerals.{add-one, add-two, add-three}
 use native.Mathlib.Omega.{arith}
 use lib.ListN.{length-set}
 use Rattle.layout.specs.Fields.{le32}
-use borrow.Author.Rules.{rules}
 use Rattle.numbers.proofs.store.Goals as goal
 
 pub bounds-s-at-2 : goal.bounds-s-at-2

@@ -1,6 +1,5 @@
 use Rattle.numbers.proofs.Edge.{u16_bytes}
 use native.Mathlib.Nat.{add-zero}
-use borrow.Author.Rules.{rules}
 use Rattle.numbers.proofs.u16_at.Goals as goal
 
 pub returns : goal.returns

@@ -1,7 +1,6 @@
 use borrow.Author.Tests.{leb-true}
 use native.Mathlib.Nat.{add-zero}
 use mathlib.Core.Path.{sym, ◌∙◌}
-use borrow.Author.Rules.{rules}
 use Rattle.numbers.proofs.u32_at.Goals as goal
 
 pub load-requires : goal.load-requires

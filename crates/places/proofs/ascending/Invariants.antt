@@ -1,13 +1,8 @@
 use Prim.Native.Nat.{◌≤◌, ◌-◌}
-use mathlib.Core.Path.{◌≡◌, refl}
-use native.Mathlib.Omega.{arith}
-use lib.ListN.{length, take, get_or}
+use mathlib.Core.Path.{◌≡◌}
+use lib.ListN.{take}
 use lib.Seq.{slice}
-use borrow.Author.Tests.{lt-ltb, le-ltb, lt-leb, le-leb}
-use Rattle.dots.specs.Dot.{no_dot}
 use Rattle.dots.specs.Rising.{rising}
-use Rattle.places.proofs.Steps.{ahead, done, mapped}
-use borrow.Author.Rules.{rules}
 use Rattle.places.proofs.ascending.Given as goal
 
 abbrev pub invariant-loop-i : goal.invariant-loop-i

@@ -1,13 +1,10 @@
-use Prim.Native.Nat.{◌-◌}
 use mathlib.Core.Path.{◌≡◌, refl}
 use native.Mathlib.Omega.{arith}
-use lib.ListN.{length, drop, get_or, drop_of_length-le}
+use lib.ListN.{length, get_or, drop_of_length-le}
 use borrow.Author.Tests.{eq-eqb, ne_eqb}
-use Rattle.tables.specs.Table.{every}
 use Rattle.dots.specs.Dot.{no_dot}
 use Rattle.places.specs.Places.{unused}
 use Rattle.places.proofs.Steps.{rest, mapped}
-use borrow.Author.Rules.{rules}
 use Rattle.places.proofs.clear_after.Goals as goal
 
 pub loop-i-init : goal.loop-i-init

@@ -1,10 +1,9 @@
-use Prim.Native.Nat.{◌≤◌, ◌+◌, ◌-◌}
+use Prim.Native.Nat.{◌+◌}
 use mathlib.Core.Path.{◌≡◌, sym, ◌∙◌}
 use native.Mathlib.Omega.{arith}
-use lib.ListN.{length, take, get_or}
+use lib.ListN.{length, get_or}
 use lib.Seq.{slice}
 use Rattle.dots.specs.Dot.{no_dot}
-use Rattle.dots.specs.Clock.{count}
 use Rattle.dots.specs.Covering.{count_here, count_other}
 use Rattle.places.proofs.Steps.{ahead, done, mapped, first_of}
 use borrow.Author.Rules.{rules}

@@ -1,13 +1,8 @@
-use Prim.Native.Nat.{◌≤◌, ◌+◌, ◌-◌}
-use mathlib.Core.Path.{◌≡◌, sym, ◌∙◌}
-use native.Mathlib.Omega.{arith}
-use lib.ListN.{length, take, get_or}
+use Prim.Native.Nat.{◌≤◌, ◌-◌}
+use mathlib.Core.Path.{◌≡◌}
+use lib.ListN.{take}
 use lib.Seq.{slice}
-use Rattle.dots.specs.Dot.{no_dot}
 use Rattle.dots.specs.Clock.{count}
-use Rattle.dots.specs.Covering.{count_here, count_other}
-use Rattle.places.proofs.Steps.{ahead, done, mapped, first_of}
-use borrow.Author.Rules.{rules}
 use Rattle.places.proofs.counter.Given as goal
 
 abbrev pub invariant-loop-i : goal.invariant-loop-i

@@ -1,10 +1,8 @@
-use Prim.Native.Nat.{◌-◌}
 use mathlib.Core.Path.{◌≡◌}
 use native.Mathlib.Omega.{arith}
-use lib.ListN.{length, take}
-use Rattle.dots.specs.Covering.{cover_of}
+use lib.ListN.{length}
 use Rattle.places.proofs.Steps.{mapped, first_of}
-use Rattle.places.proofs.Walking.{Covering, front_of, uncovered, covered, cover_end}
+use Rattle.places.proofs.Walking.{front_of, uncovered, covered, cover_end}
 use borrow.Author.Rules.{rules}
 use Rattle.places.proofs.covers.Goals as goal
 

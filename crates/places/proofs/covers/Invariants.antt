@@ -1,11 +1,7 @@
 use Prim.Native.Nat.{◌-◌}
-use mathlib.Core.Path.{◌≡◌}
-use native.Mathlib.Omega.{arith}
-use lib.ListN.{length, take}
+use lib.ListN.{take}
 use Rattle.dots.specs.Covering.{cover_of}
-use Rattle.places.proofs.Steps.{mapped, first_of}
-use Rattle.places.proofs.Walking.{Covering, front_of, uncovered, covered, cover_end}
-use borrow.Author.Rules.{rules}
+use Rattle.places.proofs.Walking.{Covering}
 use Rattle.places.proofs.covers.Given as goal
 
 abbrev pub invariant-loop-k : goal.invariant-loop-k

@@ -1,7 +1,6 @@
 use mathlib.Core.Path.{◌∙◌}
 use native.Mathlib.Nat.{zero-add}
 use Rattle.places.specs.Turn.{turn_of}
-use borrow.Author.Rules.{rules}
 use Rattle.places.proofs.meet.Goals as goal
 
 pub returns : goal.returns

@@ -1,7 +1,6 @@
 use mathlib.Core.Path.{sym, ◌∙◌}
 use borrow.Author.Tests.{lt-leb, le-leb}
 use Rattle.dots.specs.Rising.{rising_is}
-use borrow.Author.Rules.{rules}
 use Rattle.places.proofs.normal.Goals as goal
 
 pub returns-then-n-gt16 : goal.returns-then-n-gt16

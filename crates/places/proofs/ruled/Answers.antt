@@ -4,7 +4,6 @@ use borrow.Author.Tests.{eq-eqb, ne_eqb, le-leb, lt-leb}
 use Rattle.places.specs.declared.Rule.TheVariants.{Larger, Smaller, Same, Beyond}
 use Rattle.dots.specs.Ruled.{same, beyond}
 use Rattle.places.specs.Turn.{rule_of}
-use borrow.Author.Rules.{rules}
 use Rattle.places.proofs.ruled.Goals as goal
 
 pub returns-then-x-y : goal.returns-then-x-y

@@ -1,6 +1,5 @@
 use borrow.Author.Tests.{eq-eqb, ne_eqb}
 use native.Mathlib.Nat.{add-zero}
-use borrow.Author.Rules.{rules}
 use Rattle.places.proofs.step.Goals as goal
 
 pub returns-then-key-low : goal.returns-then-key-low

@@ -1,15 +1,10 @@
-use Prim.Native.Nat.{◌+◌, ◌-◌}
 use mathlib.Core.Path.{◌≡◌, refl}
-use mathlib.Core.Logic.{⊎_elim}
 use native.Mathlib.Omega.{arith}
 use native.Mathlib.Nat.{zero-add}
-use lib.ListN.{length, take}
+use lib.ListN.{length}
 use Rattle.places.specs.Places.{joined}
-use Rattle.places.specs.Turn.{rule_of}
-use Rattle.places.specs.Walked.{walked}
 use Rattle.places.proofs.Steps.{mapped, first_of}
-use Rattle.places.proofs.Zipping.{Zipping, left_in, right_in, less, again, zip_end, Stored, stored_none, stored_some, stored_full}
-use borrow.Author.Rules.{rules}
+use Rattle.places.proofs.Zipping.{left_in, right_in, less, again, zip_end, Stored, stored_none, stored_some, stored_full}
 use Rattle.places.proofs.zip.Goals as goal
 use Rattle.places.proofs.zip.Goals.{then-dot-ne0, else-dot-ne0, then-len-lt16, else-len-lt16}
 

@@ -1,6 +1,5 @@
 use mathlib.Core.Path.{◌∙◌}
 use Rattle.clocks.proofs.Answers.{apply-join}
-use borrow.Author.Rules.{rules}
 use Rattle.clocks.proofs.VClock.apply.Goals as goal
 
 pub returns : goal.returns

@@ -1,6 +1,5 @@
 use mathlib.Core.Path.{sym, ◌∙◌}
 use Rattle.clocks.proofs.Steps.{so, and-true}
-use borrow.Author.Rules.{rules}
 use Rattle.clocks.proofs.VClock.both_normalised.Goals as goal
 
 pub returns-then-is_normalised : goal.returns-then-is_normalised

@@ -2,7 +2,6 @@ use Rattle.tables.specs.Refusal.{first_of}
 use Rattle.clocks.specs.VClock.{swapped}
 use Rattle.clocks.specs.Calls.{compare_call, comparison_says}
 use Rattle.clocks.proofs.Steps.{so}
-use borrow.Author.Rules.{rules}
 use Rattle.clocks.proofs.VClock.compare.Goals as goal
 
 pub covers-requires : goal.covers-requires

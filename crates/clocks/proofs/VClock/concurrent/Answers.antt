@@ -1,8 +1,7 @@
 use Rattle.tables.specs.Refusal.{first_of}
 use Rattle.clocks.specs.VClock.{swapped}
 use Rattle.clocks.specs.Calls.{concurrent_call, truth_answer}
-use Rattle.clocks.proofs.Steps.{so, but}
-use borrow.Author.Rules.{rules}
+use Rattle.clocks.proofs.Steps.{so}
 use Rattle.clocks.proofs.VClock.concurrent.Goals as goal
 
 pub returns-then-not-both_normalised : goal.returns-then-not-both_normalised

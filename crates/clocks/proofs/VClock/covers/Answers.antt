@@ -1,5 +1,4 @@
 use Rattle.clocks.proofs.Answers.{covers-is}
-use borrow.Author.Rules.{rules}
 use Rattle.clocks.proofs.VClock.covers.Goals as goal
 
 pub returns : goal.returns

@@ -1,7 +1,6 @@
 use Rattle.tables.specs.Refusal.{first_of}
 use Rattle.clocks.specs.Calls.{dot_call, dot_answer}
 use Rattle.clocks.proofs.Steps.{so}
-use borrow.Author.Rules.{rules}
 use Rattle.clocks.proofs.VClock.dot.Goals as goal
 
 pub returns-then-is_normalised : goal.returns-then-is_normalised

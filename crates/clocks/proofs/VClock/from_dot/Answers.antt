@@ -1,7 +1,6 @@
 use Rattle.clocks.specs.VClock.{vclock}
 use mathlib.Core.Path.{sym, ap, ◌∙◌}
 use Rattle.clocks.proofs.Answers.{from_nothing, from_one}
-use borrow.Author.Rules.{rules}
 use Rattle.clocks.proofs.VClock.from_dot.Goals as goal
 
 pub returns-then-d-eq0 : goal.returns-then-d-eq0

@@ -1,7 +1,6 @@
 use Rattle.tables.specs.Refusal.{first_of}
 use Rattle.clocks.specs.Calls.{get_call, counter_answer}
 use Rattle.clocks.proofs.Steps.{so}
-use borrow.Author.Rules.{rules}
 use Rattle.clocks.proofs.VClock.get.Goals as goal
 
 pub returns-then-is_normalised : goal.returns-then-is_normalised

@@ -1,6 +1,5 @@
 use mathlib.Core.Path.{◌∙◌}
 use Rattle.clocks.proofs.Answers.{glb-join}
-use borrow.Author.Rules.{rules}
 use Rattle.clocks.proofs.VClock.glb.Goals as goal
 
 pub returns : goal.returns

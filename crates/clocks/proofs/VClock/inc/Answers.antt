@@ -2,7 +2,6 @@ use mathlib.Core.Path.{sym, ap, ◌∙◌}
 use Rattle.dots.specs.declared.DotAnswer.{DotAnswer}
 use Rattle.dots.specs.Calls.{inc_of}
 use Rattle.clocks.proofs.Answers.{inc-refused, inc-granted}
-use borrow.Author.Rules.{rules}
 use Rattle.clocks.proofs.VClock.inc.Goals as goal
 
 pub returns-then-last-ne0 : goal.returns-then-last-ne0

@@ -5,7 +5,7 @@ use Rattle.tables.specs.Refusal.{first_of}
 use Rattle.clocks.specs.VClock.{few}
 use Rattle.clocks.specs.Calls.{empty_call, truth_answer}
 use Rattle.clocks.proofs.Answers.{none_there}
-use Rattle.clocks.proofs.Steps.{so, mapped}
+use Rattle.clocks.proofs.Steps.{so}
 use borrow.Author.Rules.{rules}
 use Rattle.clocks.proofs.VClock.is_empty.Goals as goal
 

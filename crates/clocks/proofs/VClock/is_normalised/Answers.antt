@@ -1,5 +1,4 @@
 use Rattle.clocks.specs.VClock.{normalised}
-use borrow.Author.Rules.{rules}
 use Rattle.clocks.proofs.VClock.is_normalised.Goals as goal
 
 pub returns : goal.returns

@@ -1,7 +1,6 @@
 use mathlib.Core.Path.{◌∙◌}
 use Rattle.clocks.proofs.Answers.{unfit-join, crowded-join, granted-join}
 use Rattle.clocks.proofs.Steps.{so}
-use borrow.Author.Rules.{rules}
 use Rattle.clocks.proofs.VClock.joined.Goals as goal
 
 pub returns-then-not-both_normalised : goal.returns-then-not-both_normalised

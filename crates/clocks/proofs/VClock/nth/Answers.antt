@@ -5,7 +5,7 @@ use Rattle.tables.specs.Refusal.{first_of}
 use Rattle.clocks.specs.VClock.{few}
 use Rattle.clocks.specs.Calls.{nth_call, nth_says}
 use Rattle.clocks.proofs.Answers.{dot_there, dot-gone}
-use Rattle.clocks.proofs.Steps.{so, mapped}
+use Rattle.clocks.proofs.Steps.{so}
 use borrow.Author.Rules.{rules}
 use Rattle.clocks.proofs.VClock.nth.Goals as goal
 

@@ -1,5 +1,4 @@
 use Rattle.clocks.proofs.Answers.{refused_is}
-use borrow.Author.Rules.{rules}
 use Rattle.clocks.proofs.VClock.refused.Goals as goal
 
 pub returns : goal.returns

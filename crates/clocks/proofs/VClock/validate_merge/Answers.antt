@@ -1,7 +1,6 @@
 use Rattle.tables.specs.Refusal.{first_of}
 use Rattle.clocks.specs.Calls.{validate_merge_call}
 use Rattle.clocks.proofs.Steps.{so}
-use borrow.Author.Rules.{rules}
 use Rattle.clocks.proofs.VClock.validate_merge.Goals as goal
 
 pub returns-then-both_normalised : goal.returns-then-both_normalised

@@ -4,7 +4,6 @@ use Rattle.clocks.specs.Calls.{validate_op_call, validation_says}
 use native.Mathlib.Omega.{arith}
 use Rattle.clocks.proofs.Answers.{no_gap, a_gap}
 use Rattle.clocks.proofs.Steps.{so}
-use borrow.Author.Rules.{rules}
 use Rattle.clocks.proofs.VClock.validate_op.Goals as goal
 
 pub returns-then-not-is_normalised : goal.returns-then-not-is_normalised

@@ -1,4 +1,3 @@
-use borrow.Author.Rules.{rules}
 use Rattle.clocks.proofs.Steps.{so}
 use mathlib.Core.Path.{◌∙◌}
 use Rattle.tables.specs.Refusal.{first_of}

@@ -1,4 +1,3 @@
-use borrow.Author.Rules.{rules}
 use Rattle.clocks.proofs.Steps.{so}
 use Rattle.contexts.specs.Contexts.{fit}
 use Rattle.contexts.proofs.ReadCtx.is_fit.Goals as goal

@@ -1,4 +1,3 @@
-use borrow.Author.Rules.{rules}
 use Rattle.clocks.proofs.Steps.{so}
 use Rattle.tables.specs.Refusal.{first_of}
 use Rattle.contexts.specs.Contexts.{split_call}

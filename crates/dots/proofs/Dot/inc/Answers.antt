@@ -1,4 +1,3 @@
-use borrow.Author.Rules.{rules}
 use borrow.Author.Tests.{eq-eqb, ne_eqb}
 use Rattle.dots.specs.Calls.{inc_of}
 use Rattle.dots.proofs.Dot.inc.Goals as goal

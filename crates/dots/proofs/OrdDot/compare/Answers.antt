@@ -1,6 +1,5 @@
 use native.Mathlib.Omega.{arith}
 use mathlib.Core.Path.{sym, ◌∙◌}
-use borrow.Author.Rules.{rules}
 use Rattle.dots.proofs.Actors.{of_one_actor, of_less, of_more}
 use Rattle.dots.proofs.OrdDot.compare.Goals as goal
 
