@@ -6,12 +6,10 @@ use native.Mathlib.Omega.{arith}
 use native.Mathlib.Nat.{zero-add}
 use lib.ListN.{length, take, length-append, length-map, length-take}
 use lib.Seq.{sets, take-take}
-use Rattle.clocks.specs.contracts.VClock as VClock
-use Rattle.lists.specs.contracts.Members as Members
 use Rattle.tables.specs.Stores.{sets_append}
 use Rattle.tables.specs.Table.{All, Asc, Below, Normal, map_id}
 use Rattle.tables.specs.Zip.{Rise}
-use Rattle.dots.specs.Dot.{clocks, dots}
+use Rattle.dots.specs.Dot.{clocks}
 use Rattle.dots.specs.Clock.{Clock}
 use Rattle.clocks.specs.declared.VClock.{VClock}
 use Rattle.clocks.specs.VClock.{dots_of}

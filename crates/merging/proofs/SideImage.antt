@@ -5,11 +5,12 @@ use mathlib.Core.List.{List, [], ◌∷◌, map}
 use native.Mathlib.Omega.{arith}
 use lib.ListN.{length, take, drop}
 use lib.Seq.{sets, sets-eq, length-sets, take_at}
-use mir.Val.{WT}
+use mir.Syntax.{w32}
+use mir.Val.{WTs, of_list, vint}
 use Rattle.tables.specs.Table.{All}
 use Rattle.tables.specs.Zip.{Rise}
 use Rattle.dots.specs.declared.Dot.{Dot}
-use Rattle.clocks.proofs.VClock as VClock
+use Rattle.dots.proofs.Dot.TheLaws as TheLaws
 use Rattle.replica.specs.Replica.{Replica, entry_rows}
 use Rattle.layout.specs.Fields.{u32_at}
 use Rattle.layout.specs.Fits.{FitsClock, FitMembers, Fits}
@@ -22,20 +23,19 @@ use Rattle.layout.proofs.Parts.{sound_narrow, row_form, row_laws, faithful_clock
 use Rattle.layout.proofs.Round.{Readable, length_encode, read_back, readable_encode}
 use Rattle.kills.specs.Lines.{members_of, waits_of}
 use Rattle.kills.specs.Laws.{Ordered}
-use Rattle.lists.proofs.Members as Members
 use Rattle.image.specs.declared.Image.{Image}
 use Rattle.merging.specs.Side.{Brings}
 use Rattle.merging.proofs.WaitSteps.{end_ge}
 
--- ---- numbers of a lent record fit: what owning it tells
+-- ---- numbers of a clock and of a list of members fit: what their types tell
 
-pub clock_typed : (n : ℕ) (l : List Dot) → WT ((VClock.TheLaws.the_laws).0.val ((VClock.the_type).to (record { dots = l; len = n })).0) → FitsClock l
-clock_typed n [] w = tt
-clock_typed n (d ∷ l) w = ((w.0.0.0.fits, w.0.1.0.fits), clock_typed n l w.1)
+pub clock_typed : (l : List Dot) → WTs (of_list (map (λ x. TheLaws.the_told.val x) l)) → FitsClock l
+clock_typed [] w = tt
+clock_typed (d ∷ l) w = ((w.0.0.0.fits, w.0.1.0.fits), clock_typed l w.1)
 
-pub members_typed : (n : ℕ) (l : List ℕ) → WT ((Members.TheLaws.the_laws).0.val ((Members.the_type).to (record { at = l; len = n })).0) → FitMembers l
-members_typed n [] w = tt
-members_typed n (k ∷ l) w = (w.0.fits, members_typed n l w.1)
+pub members_typed : (l : List ℕ) → WTs (of_list (map (λ x. vint w32 x) l)) → FitMembers l
+members_typed [] w = tt
+members_typed (k ∷ l) w = (w.0.fits, members_typed l w.1)
 
 pub all_take : {A : Type 0} (P : A → Type 0) (n : ℕ) (l : List A) → All P l → All P (take n l)
 all_take P zero l h = tt

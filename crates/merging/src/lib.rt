@@ -1,5 +1,6 @@
 // Replica images: two merged, one changed by an operation, one reset.
 #![tactic(auto)]
+
 ghost use Rattle.replica.specs.Limits.{full};
 ghost use Rattle.results.specs.Call.{Meets};
 ghost use Rattle.merging.specs.Merge.{merge_call};

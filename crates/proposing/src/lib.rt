@@ -1,6 +1,7 @@
 // Operations before they are applied (src/orswot.rs of the crate): made from a context by `add`, `add_all`, `rm` and `rm_all`, and judged against a
 // replica by `validate_op`. What is made is what `apply` takes: the operation, the clock beside it, and where it is of one member the list of it.
 #![tactic(auto)]
+
 ghost use Rattle.std.specs.Prelude.{◌≡◌};
 ghost use Rattle.clocks.specs.Calls.{validate_op_call as dot_call};
 ghost use Rattle.operations.specs.Calls.{validation_says, validate_op_call};

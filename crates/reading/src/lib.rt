@@ -1,5 +1,6 @@
 // What is asked of a replica without changing it: `contains`, `read` and `read_ctx` of src/orswot.rs; and the empty replica (`new`).
 #![tactic(auto)]
+
 ghost use Rattle.std.specs.Prelude.{◌≡◌, map, ◌<◌, ◌≤◌, length, take};
 ghost use Rattle.std.proofs.lemmas.List.Edits.{sets};
 ghost use Rattle.replica.specs.Limits.{full};

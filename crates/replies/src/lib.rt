@@ -1,5 +1,6 @@
 // What C is answered: one number of 64 bits and bytes; and a clock that C lends.
 #![tactic(auto)]
+
 ghost use Rattle.std.specs.Prelude.{◌≡◌, ◌+◌, ◌*◌, length};
 ghost use Rattle.std.proofs.lemmas.List.Edits.{sets};
 ghost use Rattle.clocks.specs.VClock.{dots_of};

@@ -1,5 +1,6 @@
 // Whether two replicas may be merged (`validate_merge` of src/orswot.rs): a dot that both hold, each for another member, is reported.
 #![tactic(auto)]
+
 ghost use Rattle.std.specs.Prelude.{◌≡◌, true, not, ◌&&◌, map, ◌+◌, ◌*◌, ◌<◌, ◌≤◌, eqb, length, take};
 ghost use Rattle.std.proofs.lemmas.List.Edits.{sets};
 ghost use Rattle.dots.specs.Rising.{rising};
