@@ -3,6 +3,7 @@ use crate::held::{Held, applied, e, empty, room};
 use crate::say;
 use dots::{Actor, Member};
 use orswot::OneAnswer;
+use std::io;
 
 // The add of 5 by actor 1, from what a read of the replica handed out.
 fn add_made(h: Held) -> OneAnswer {
@@ -27,13 +28,15 @@ fn done(h: Held, made: OneAnswer) -> Held {
     applied(h, op, clock, &list)
 }
 
-pub fn cases() {
+pub fn cases(rt: &impl Print) -> io::Result<()> {
     say::whole(
-        b"5 added by the context of a read: ",
+        rt,
+        "5 added by the context of a read: ",
         done(empty(), add_made(empty())),
-    );
+    )?;
     say::whole(
-        b"5 removed by the context of contains: ",
+        rt,
+        "5 removed by the context of contains: ",
         done(e(), rm_made(e())),
-    );
+    )
 }

@@ -1,5 +1,5 @@
 // Replicas as a caller holds them: what a call wrote, with its number and length. Each function hands the image on to a public call.
-ghost use Rattle.io.specs.Counts.{IsPrefixLen};
+ghost use Rattle.std.specs.Counts.{IsPrefixLen};
 
 use clocks::VClock;
 use dots::{Actor, Dot};
@@ -16,11 +16,7 @@ pub struct Held {
 pub fn room(len: usize, bytes: &[u8]) -> usize
     ensures { IsPrefixLen result bytes.now }
 {
-    if len <= 1536 {
-        io::count(len as isize, bytes)
-    } else {
-        io::count(0, bytes)
-    }
+    if len <= 1536 { len.min(bytes.len()) } else { 0 }
 }
 
 pub fn dot(actor: u32, counter: u64) -> Dot {

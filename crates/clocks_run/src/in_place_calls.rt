@@ -7,6 +7,7 @@ use crate::samples::{dot, one, two};
 use crate::{samples, say};
 use clocks::{ClockAnswer, VClock};
 use dots::Dot;
+use std::io;
 
 // The number of `apply_in_place`, and the clock after it.
 fn applied(mut c: VClock, d: Dot) -> ClockAnswer
@@ -24,49 +25,54 @@ fn merged(mut c: VClock, other: VClock) -> ClockAnswer
     ClockAnswer { no, clock: c }
 }
 
-pub fn good() {
+pub fn good(rt: &impl Print) -> io::Result<()> {
     say::clock_line(
-        b"apply 1.5 in place to <1:2, 2:3>: ",
+        rt,
+        "apply 1.5 in place to <1:2, 2:3>: ",
         applied(two(1, 2, 2, 3), dot(1, 5)),
-    );
+    )?;
     say::clock_line(
-        b"merge <1:1, 3:1> in place into <1:2, 2:3>: ",
+        rt,
+        "merge <1:1, 3:1> in place into <1:2, 2:3>: ",
         merged(two(1, 2, 2, 3), two(1, 1, 3, 1)),
-    );
+    )
 }
 
 // A refusal number, and the record beside it by its length and first two places, since a bad one has no text.
-fn record_line(w: &[u8], a: ClockAnswer) {
+fn record_line(rt: &impl Print, w: &str, a: ClockAnswer) -> io::Result<()> {
     let c = a.clock;
-    say::words(w);
-    say::no(a.no);
-    say::words(b"length ");
-    say::number(c.len as u64);
-    say::words(b", ");
-    say::dot(c.dots[0]);
-    say::words(b" and ");
-    say::dot(c.dots[1]);
-    say::end();
+    say::words(rt, w)?;
+    say::no(rt, a.no)?;
+    say::words(rt, "length ")?;
+    say::number(rt, c.len as u64)?;
+    say::words(rt, ", ")?;
+    say::dot(rt, c.dots[0])?;
+    say::words(rt, " and ")?;
+    say::dot(rt, c.dots[1])?;
+    say::end(rt)
 }
 
-pub fn bad() {
+pub fn bad(rt: &impl Print) -> io::Result<()> {
     let c = samples::not_ascending();
     record_line(
-        b"apply 3.1 in place to a record with actors not ascending: ",
+        rt,
+        "apply 3.1 in place to a record with actors not ascending: ",
         applied(c, dot(3, 1)),
-    );
-    record_line(b"merge <1:1> in place into it: ", merged(c, one(1, 1)));
-    say::clock_line(b"merge it in place into <1:1>: ", merged(one(1, 1), c));
+    )?;
+    record_line(rt, "merge <1:1> in place into it: ", merged(c, one(1, 1)))?;
+    say::clock_line(rt, "merge it in place into <1:1>: ", merged(one(1, 1), c))
 }
 
-pub fn crowded() {
+pub fn crowded(rt: &impl Print) -> io::Result<()> {
     let c = samples::actors(1, 16, 1);
     say::clock_line(
-        b"apply 17.1 in place to 16 actors: ",
+        rt,
+        "apply 17.1 in place to 16 actors: ",
         applied(c, dot(17, 1)),
-    );
+    )?;
     say::clock_line(
-        b"merge <17:1> in place into 16 actors: ",
+        rt,
+        "merge <17:1> in place into 16 actors: ",
         merged(c, one(17, 1)),
-    );
+    )
 }

@@ -1,6 +1,7 @@
 // Runs the calls on dots, clocks, text, contexts and a clock held in place on good, bad and boundary values, and prints for each its refusal number and what it carries.
 // The file `stdout` beside this folder is written by hand from document 01, never by this program.
 #![tactic(auto)]
+
 mod clock_calls;
 mod dot_calls;
 mod edge_calls;
@@ -8,24 +9,26 @@ mod in_place_calls;
 mod samples;
 mod say;
 
-fn main() {
-    dot_calls::successors();
-    dot_calls::comparisons();
-    clock_calls::readings();
-    clock_calls::emptiness();
-    clock_calls::successors();
-    clock_calls::places();
-    clock_calls::applies();
-    clock_calls::resets();
-    clock_calls::commons();
-    clock_calls::orders();
-    clock_calls::rivals();
-    clock_calls::validations();
-    edge_calls::bad_records();
-    edge_calls::crowded();
-    edge_calls::texts();
-    edge_calls::contexts();
-    in_place_calls::good();
-    in_place_calls::bad();
-    in_place_calls::crowded();
+use std::io;
+
+fn main(rt: HostRuntime) -> io::Result<()> {
+    dot_calls::successors(&rt)?;
+    dot_calls::comparisons(&rt)?;
+    clock_calls::readings(&rt)?;
+    clock_calls::emptiness(&rt)?;
+    clock_calls::successors(&rt)?;
+    clock_calls::places(&rt)?;
+    clock_calls::applies(&rt)?;
+    clock_calls::resets(&rt)?;
+    clock_calls::commons(&rt)?;
+    clock_calls::orders(&rt)?;
+    clock_calls::rivals(&rt)?;
+    clock_calls::validations(&rt)?;
+    edge_calls::bad_records(&rt)?;
+    edge_calls::crowded(&rt)?;
+    edge_calls::texts(&rt)?;
+    edge_calls::contexts(&rt)?;
+    in_place_calls::good(&rt)?;
+    in_place_calls::bad(&rt)?;
+    in_place_calls::crowded(&rt)
 }

@@ -1,89 +1,84 @@
 // Prints words, numbers and answers.
 use clocks::{ClockAnswer, ComparisonAnswer, CounterAnswer, TruthAnswer, VClock};
 use dots::{Comparison, Dot, DotAnswer};
+use std::io;
 
-pub fn words(w: &[u8]) {
-    io::write_all(1, w);
+pub fn words(rt: &impl Print, w: &str) -> io::Result<()> {
+    rt.print(w)
 }
 
-pub fn number(n: u64) {
-    io::print_decimal(1, n);
+pub fn number(rt: &impl Print, n: u64) -> io::Result<()> {
+    rt.print(n)
 }
 
-pub fn end() {
-    words(b"\n");
+pub fn end(rt: &impl Print) -> io::Result<()> {
+    words(rt, "\n")
 }
 
 // A refusal number and a space.
-pub fn no(n: u32) {
-    number(n as u64);
-    words(b" ");
+pub fn no(rt: &impl Print, n: u32) -> io::Result<()> {
+    print!(rt; "{n} ")
 }
 
-pub fn dot(d: Dot) {
-    number(d.actor.0 as u64);
-    words(b".");
-    number(d.counter);
+pub fn dot(rt: &impl Print, d: Dot) -> io::Result<()> {
+    print!(rt; "{}.{}", d.actor.0, d.counter)
 }
 
-pub fn truth(b: bool) {
-    if b {
-        words(b"yes");
-    } else {
-        words(b"no");
-    }
+pub fn truth(rt: &impl Print, b: bool) -> io::Result<()> {
+    if b { words(rt, "yes") } else { words(rt, "no") }
 }
 
-pub fn order(c: Comparison) {
+pub fn order(rt: &impl Print, c: Comparison) -> io::Result<()> {
     match c {
-        Comparison::Less => words(b"less"),
-        Comparison::Equal => words(b"equal"),
-        Comparison::Greater => words(b"greater"),
-        Comparison::None => words(b"none"),
+        Comparison::Less => words(rt, "less"),
+        Comparison::Equal => words(rt, "equal"),
+        Comparison::Greater => words(rt, "greater"),
+        Comparison::None => words(rt, "none"),
     }
 }
 
-pub fn clock(c: VClock) {
+pub fn clock(rt: &impl Print, c: VClock) -> io::Result<()> {
     let mut text = [0u8; 528];
     let s = display::display(c, &mut text);
     if s.len <= 528 {
-        let n = io::count(s.len as isize, &text);
-        io::write_all(1, &text[..n]);
+        rt.write_all(&text[..s.len])
+    } else {
+        Ok(())
     }
 }
 
-pub fn dot_line(w: &[u8], a: DotAnswer) {
-    words(w);
-    no(a.no);
-    dot(a.dot);
-    end();
+pub fn dot_line(rt: &impl Print, w: &str, a: DotAnswer) -> io::Result<()> {
+    words(rt, w)?;
+    no(rt, a.no)?;
+    dot(rt, a.dot)?;
+    end(rt)
 }
 
-pub fn clock_line(w: &[u8], a: ClockAnswer) {
-    words(w);
-    no(a.no);
-    clock(a.clock);
-    end();
+pub fn clock_line(rt: &impl Print, w: &str, a: ClockAnswer) -> io::Result<()> {
+    words(rt, w)?;
+    no(rt, a.no)?;
+    clock(rt, a.clock)?;
+    end(rt)
 }
 
-pub fn counter_line(w: &[u8], a: CounterAnswer) {
-    words(w);
-    no(a.no);
-    number(a.counter);
-    end();
+pub fn counter_line(rt: &impl Print, w: &str, a: CounterAnswer) -> io::Result<()> {
+    words(rt, w)?;
+    no(rt, a.no)?;
+    number(rt, a.counter)?;
+    end(rt)
 }
 
-pub fn truth_line(w: &[u8], a: TruthAnswer) {
-    words(w);
-    no(a.no);
-    truth(a.holds);
-    end();
+pub fn truth_line(rt: &impl Print, w: &str, a: TruthAnswer) -> io::Result<()> {
+    words(rt, w)?;
+    no(rt, a.no)?;
+    truth(rt, a.holds)?;
+    end(rt)
 }
 
-pub fn order_line(w: &[u8], a: ComparisonAnswer) {
-    words(w);
-    no(a.no);
+pub fn order_line(rt: &impl Print, w: &str, a: ComparisonAnswer) -> io::Result<()> {
+    words(rt, w)?;
+    no(rt, a.no)?;
     let o = a.order;
-    order(o);
-    end();
+    order(rt, o)?;
+    end(rt)
 }

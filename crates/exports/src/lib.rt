@@ -1,6 +1,7 @@
-// The library as C calls it: the functions of include/gatelichen.h, each thin over the Rattle call of the same name. Images, clocks and outputs are
-// bytes, all else is numbers. Nothing is asked of a caller but what the header asks: any content of any input is judged.
+// The library as C calls it: the functions of include/gatelichen.h, each thin over the Rattle call of the same name; `exports_c` hands them to C. Images,
+// clocks and outputs are bytes, all else is numbers. Nothing is asked of a caller but what the header asks: any content of any input is judged.
 #![tactic(auto)]
+
 mod reads;
 mod validates;
 mod writes;

@@ -7,16 +7,14 @@ use dots::Member;
 use replies::{packed, put};
 
 // Whether the bytes are a well-formed image. Refuses 1.
-#[unsafe(no_mangle)]
-pub extern "C" fn gatelichen_check(image: &[u8]) -> u64
+pub fn gatelichen_check(image: &[u8]) -> u64
     ensures { result ≡ one_number (check_reply image.now) }
 {
     packed(image::check_image(image), 0)
 }
 
 // Whether the member is there, 1 or 0; writes the clock by which it can be removed. Refuses 1, 10.
-#[unsafe(no_mangle)]
-pub extern "C" fn gatelichen_contains(image: &[u8], member: u32, out: &mut [u8]) -> u64
+pub fn gatelichen_contains(image: &[u8], member: u32, out: &mut [u8]) -> u64
     ensures { Replies (contains_reply image.now member (length out.old)) out.old result out.new }
 {
     let x = reading::contains(image, Member(member));
@@ -30,8 +28,7 @@ pub extern "C" fn gatelichen_contains(image: &[u8], member: u32, out: &mut [u8])
 }
 
 // Writes the members, ascending; the lower half is how many they are. Refuses 1, 10.
-#[unsafe(no_mangle)]
-pub extern "C" fn gatelichen_read(image: &[u8], out: &mut [u8]) -> u64
+pub fn gatelichen_read(image: &[u8], out: &mut [u8]) -> u64
     ensures { Replies (read_reply image.now (length out.old)) out.old result out.new }
 {
     let x = reading::read(image, out);
@@ -39,8 +36,7 @@ pub extern "C" fn gatelichen_read(image: &[u8], out: &mut [u8]) -> u64
 }
 
 // Writes the replica's clock; the lower half is its length. Refuses 1, 10.
-#[unsafe(no_mangle)]
-pub extern "C" fn gatelichen_clock(image: &[u8], out: &mut [u8]) -> u64
+pub fn gatelichen_clock(image: &[u8], out: &mut [u8]) -> u64
     ensures { Replies (clock_reply image.now (length out.old)) out.old result out.new }
 {
     let x = image::clock(image);

@@ -11,8 +11,7 @@ use replies::{clock_lent, number_of, packed, put_gap, put_spent};
 use validating::Validation;
 
 // Whether an add under the dot follows what the replica has seen of the actor: 11 where not, and the gap is written where it fits. Refuses 1, 4.
-#[unsafe(no_mangle)]
-pub extern "C" fn gatelichen_validate_add(
+pub fn gatelichen_validate_add(
     image: &[u8],
     actor: u32,
     counter: u64,
@@ -31,8 +30,7 @@ pub extern "C" fn gatelichen_validate_add(
 }
 
 // Whether the arguments of a remove are good ones. Refuses 1, 3, 4.
-#[unsafe(no_mangle)]
-pub extern "C" fn gatelichen_validate_remove(image: &[u8], clock: &[u8], members: &[u32]) -> u64
+pub fn gatelichen_validate_remove(image: &[u8], clock: &[u8], members: &[u32]) -> u64
     ensures { result ≡ one_number (validate_remove_reply image.now clock.now members.now) }
 {
     let v = proposing::validate_op(image, Op::Remove, clock_lent(clock), members);
@@ -40,8 +38,7 @@ pub extern "C" fn gatelichen_validate_remove(image: &[u8], clock: &[u8], members
 }
 
 // Whether a dot is held for one member by a and for another by b: 12, and the first such is written where it fits. Refuses 1, 2.
-#[unsafe(no_mangle)]
-pub extern "C" fn gatelichen_validate_merge(a: &[u8], b: &[u8], out: &mut [u8]) -> u64
+pub fn gatelichen_validate_merge(a: &[u8], b: &[u8], out: &mut [u8]) -> u64
     ensures { Replies (validate_merge_reply a.now b.now (length out.old)) out.old result out.new }
 {
     let v = validating::validate_merge(a, b);

@@ -16,24 +16,21 @@ use replies::{clock_lent, packed};
 use results::Written;
 
 // Writes the empty replica. Refuses 10.
-#[unsafe(no_mangle)]
-pub extern "C" fn gatelichen_empty(out: &mut [u8]) -> u64
+pub fn gatelichen_empty(out: &mut [u8]) -> u64
     ensures { Replies (replica_reply empty_call (length out.old)) out.old result out.new }
 {
     written(reading::empty(out))
 }
 
 // Merges two replicas and writes the result. Refuses 1, 2, 6, 7, 8, 9, 10.
-#[unsafe(no_mangle)]
-pub extern "C" fn gatelichen_merge(a: &[u8], b: &[u8], out: &mut [u8]) -> u64
+pub fn gatelichen_merge(a: &[u8], b: &[u8], out: &mut [u8]) -> u64
     ensures { Replies (replica_reply (merge_call a.now b.now) (length out.old)) out.old result out.new }
 {
     written(merging::merge(a, b, out))
 }
 
 // Adds the members under the dot and writes the result. Refuses 1, 4, 6, 7, 10.
-#[unsafe(no_mangle)]
-pub extern "C" fn gatelichen_add(
+pub fn gatelichen_add(
     image: &[u8],
     actor: u32,
     counter: u64,
@@ -50,21 +47,14 @@ pub extern "C" fn gatelichen_add(
 }
 
 // Removes what the clock covers of the members and writes the result. Refuses 1, 3, 4, 8, 9, 10.
-#[unsafe(no_mangle)]
-pub extern "C" fn gatelichen_remove(
-    image: &[u8],
-    clock: &[u8],
-    members: &[u32],
-    out: &mut [u8],
-) -> u64
+pub fn gatelichen_remove(image: &[u8], clock: &[u8], members: &[u32], out: &mut [u8]) -> u64
     ensures { Replies (replica_reply (apply_call image.now Op.Remove (clock_lent clock.now) members.now) (length out.old)) out.old result out.new }
 {
     written(merging::apply(image, Op::Remove, clock_lent(clock), members, out))
 }
 
 // Forgets what the clock covers and writes the result. Refuses 1, 3, 9, 10.
-#[unsafe(no_mangle)]
-pub extern "C" fn gatelichen_reset(image: &[u8], clock: &[u8], out: &mut [u8]) -> u64
+pub fn gatelichen_reset(image: &[u8], clock: &[u8], out: &mut [u8]) -> u64
     ensures { Replies (replica_reply (reset_call image.now (clock_lent clock.now)) (length out.old)) out.old result out.new }
 {
     written(merging::reset_remove(image, clock_lent(clock), out))

@@ -1,67 +1,88 @@
 // The merge program: reads the images that its first two arguments name, merges them, writes the merged one to the third, and prints `done` with its
 // length, or `refused` with the number. Both inputs are read before the third is opened, so it may be one of them; it is opened only once the merge is
-// granted.
+// granted. It ends with an error only where a line can't be printed.
 #![tactic(auto)]
-ghost use Rattle.io.specs.Counts.{IsPrefixLen};
 
-use libc::STDOUT_FILENO;
+ghost use Rattle.std.specs.Counts.{IsPrefixLen};
+
+use std::env::Env;
+use std::fs::{Files, OpenFile};
+use std::io::{ErrorKind, Read, Write};
+use std::{fs, io};
 
 // Reads the file that an argument names, as far as the buffer goes, and answers how many bytes there are: none where it is missing or can't be opened.
-fn load(i: usize, buf: &mut [u8]) -> usize
+fn load<R: Env + Files>(rt: &R, i: usize, buf: &mut [u8]) -> usize
     ensures { IsPrefixLen result buf.new }
 {
-    let mut path = io::buffer();
-    let length = os::arg(i, &mut path);
-    if os::errno() != 0 {
+    let mut name = [0u8; 4096];
+    let Ok(length) = rt.arg(i, &mut name) else {
         return 0;
-    }
-    let file = os::open_read(&path[..length]);
-    if file < 0 {
+    };
+    let Ok(path) = str::from_utf8(&name[..length]) else {
         return 0;
+    };
+    let Ok(mut file) = fs::open(rt, path) else {
+        return 0;
+    };
+    fill(&mut file, buf)
+}
+
+// Reads until the buffer is full, the file ends or a read fails, and answers how many bytes that are.
+fn fill<F: Read>(file: &mut F, buf: &mut [u8]) -> usize
+    ensures { IsPrefixLen result buf.new }
+{
+    let mut done = 0;
+    while done < buf.len() {
+        match file.read(&mut buf[done..]) {
+            Ok(0) | Err(_) => break,
+            Ok(n) => done += n,
+        }
     }
-    let n = io::read_full(file, buf);
-    libc::close(file);
-    n
+    done
 }
 
 // Writes the file that the third argument names, and answers whether it was written whole.
-fn store(image: &[u8]) -> bool {
-    let mut path = io::buffer();
-    let length = os::arg(3, &mut path);
-    if os::errno() != 0 {
+fn store<R: Env + Files>(rt: &R, image: &[u8]) -> bool {
+    let mut name = [0u8; 4096];
+    let Ok(length) = rt.arg(3, &mut name) else {
         return false;
-    }
-    let file = os::open_overwrite(&path[..length]);
-    if file < 0 {
+    };
+    let Ok(path) = str::from_utf8(&name[..length]) else {
         return false;
-    }
-    let whole = io::write_all(file, image);
-    let closed = libc::close(file);
-    whole && closed == 0
+    };
+    let Ok(mut file) = fs::create(rt, path) else {
+        return false;
+    };
+    file.write_all(image).is_ok() && kept(&file)
 }
 
-fn say(word: &[u8], n: u64) {
-    io::write_all(STDOUT_FILENO, word);
-    io::print_decimal(STDOUT_FILENO, n);
-    io::write_all(STDOUT_FILENO, b"\n");
+// Whether the system has what was written. A close doesn't say so: it is asked before. What can't be asked, as a pipe, has it.
+fn kept<F: OpenFile>(file: &F) -> bool {
+    match file.sync_all() {
+        Ok(()) => true,
+        Err(e) => e.kind() == ErrorKind::InvalidInput,
+    }
+}
+
+fn say(rt: &impl Print, word: &str, n: u64) -> io::Result<()> {
+    println!(rt; "{word}{n}")
 }
 
 // A buffer has one byte more than the longest image, so a file that is too long is refused as not well-formed.
-fn main() {
+fn main(rt: HostRuntime) -> io::Result<()> {
     let mut a = [0u8; 18269];
     let mut b = [0u8; 18269];
     let mut out = [0u8; 18268];
-    let n = load(1, &mut a);
-    let m = load(2, &mut b);
+    let n = load(&rt, 1, &mut a);
+    let m = load(&rt, 2, &mut b);
     let w = merging::merge(&a[..n], &b[..m], &mut out);
     if w.no != 0 {
-        say(b"refused ", w.no as u64);
-        return;
+        return say(&rt, "refused ", w.no as u64);
     }
     let len = w.len;
-    if store(&out[..len]) {
-        say(b"done ", len as u64);
+    if store(&rt, &out[..len]) {
+        say(&rt, "done ", len as u64)
     } else {
-        say(b"refused ", 10);
+        say(&rt, "refused ", 10)
     }
 }

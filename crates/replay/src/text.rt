@@ -1,13 +1,20 @@
 // A file's lines: fields parted by one space, each in hex, or - for what is empty.
 ghost use Rattle.std.specs.Prelude.{◌<◌, ◌≤◌, length};
-ghost use Rattle.io.specs.Counts.{IsPrefixLen};
+ghost use Rattle.std.specs.Counts.{IsPrefixLen};
+
+use std::io::{Read, Seek, SeekFrom};
 
 // Reads a file from a place on, as far as the buffer goes, and answers how many bytes of whole lines there are.
-pub(crate) fn lines_from(file: i32, at: u32, buf: &mut [u8]) -> usize
+pub(crate) fn lines_from<F: Read + Seek>(file: &mut F, at: u32, buf: &mut [u8]) -> usize
     ensures { IsPrefixLen result buf.new }
 {
-    let got = libc::pread(file, buf, at as i64);
-    whole(buf, io::count(got, buf))
+    if file.seek(SeekFrom::Start(at as u64)).is_err() {
+        return 0;
+    }
+    match file.read(buf) {
+        Ok(got) => whole(buf, got),
+        Err(_) => 0,
+    }
 }
 
 // The place after the last line end among the first bytes.
