@@ -4,7 +4,6 @@ use Rattle.std.proofs.Common.{ap, ◌∙◌, arith}
 use borrow.Author.Tests.{lt-leb, le-leb, lt-ltb, le-ltb, eq-eqb, ne_eqb}
 use Rattle.std.proofs.Math.ListN.{length}
 use Rattle.tables.specs.Table.{pick}
-use Rattle.replica.specs.Replica.{Entry}
 use Rattle.layout.specs.Fields.{Bytes, u32_at}
 use Rattle.layout.specs.Lists.{list_at, end_after}
 use Rattle.layout.specs.Clock.{clock_at, clock_end_in, encode_clock}
@@ -14,10 +13,8 @@ use Rattle.layout.specs.Good.{good_rows}
 use Rattle.layout.proofs.KitFacts.{part_is, first_row}
 use Rattle.layout.proofs.Parts.{clock_laws}
 use Rattle.layout.proofs.Checks.{passed}
-use Rattle.walk.specs.declared.Hand.{Hand}
-use Rattle.walk.specs.declared.Hand.TheVariants.{One, Nothing}
 use Rattle.walk.specs.Walks.{end_at, start_at, hand_at, part_at, onward_at}
-use Rattle.walk.specs.Handed.{handed, handing_of}
+use Rattle.walk.specs.Handed.{Handing, handed, handing_of}
 
 row_end_after : (s : List ℕ) (at : ℕ) → at + 8 ≤ row_end s at
 unfolding row_end_in clock_end_in

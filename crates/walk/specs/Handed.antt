@@ -1,22 +1,10 @@
 -- What a walk hands out: of a well-formed image exactly its entries, ascending, each with the bytes of its clock; of any other bytes none.
-use Rattle.std.specs.Prelude.{◌≡◌, refl, List, [], ◌∷◌, map, Bool, true, false, ℕ, suc, zero, ◌+◌, ◌-◌, ◌≤◌, ◌<◌, ltb}
-use Rattle.std.proofs.Common.{ap, ◌∙◌, arith}
-use borrow.Author.Tests.{lt-leb, le-leb, lt-ltb, le-ltb, eq-eqb, ne_eqb}
-use Rattle.std.proofs.Math.ListN.{length}
-use Rattle.tables.specs.Table.{pick}
+use Rattle.std.specs.Prelude.{List, [], ◌∷◌, ℕ, suc, zero}
 use Rattle.replica.specs.Replica.{Entry}
-use Rattle.layout.specs.Fields.{Bytes, u32_at}
-use Rattle.layout.specs.Lists.{list_at, end_after}
-use Rattle.layout.specs.Clock.{clock_at, clock_end_in, encode_clock}
-use Rattle.layout.specs.Rows.{row_at, row_in, row_end, row_end_in, rows_at, rows_end_at}
-use Rattle.layout.specs.Image.{good_image, image_in, image_of, entries_start, entries_count, waits_start_at}
-use Rattle.layout.specs.Good.{good_rows}
-use Rattle.layout.proofs.KitFacts.{part_is, first_row}
-use Rattle.layout.proofs.Parts.{clock_laws}
-use Rattle.layout.proofs.Checks.{passed}
+use Rattle.layout.specs.Clock.{encode_clock}
 use Rattle.walk.specs.declared.Hand.{Hand}
 use Rattle.walk.specs.declared.Hand.TheVariants.{One, Nothing}
-use Rattle.walk.specs.Walks.{end_at, start_at, hand_at, part_at, onward_at}
+use Rattle.walk.specs.Walks.{hand_at, part_at, onward_at}
 
 -- a member and the bytes handed out with it
 pub record Handing : Type 0 where
