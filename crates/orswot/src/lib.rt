@@ -1,6 +1,7 @@
 // The set over replica images (src/orswot.rs of the crate): every call under one name. A replica is an image, a run of bytes; each call checks what
 // it is lent, and does its work or answers the lowest refusal number that applies.
 #![tactic(auto)]
+
 pub use image::{ClockAnswer, check_image, clock};
 pub use merging::{apply, merge, reset_remove};
 pub use operations::{Op, OpValidation};
