@@ -1,6 +1,6 @@
 -- What is proved of specs/Granted.antt.
-use Prim.Native.Nat.{ℕ, zero, suc, ◌≤◌}
-use Rattle.std.specs.Prelude.{◌≡◌, refl, false, T, eqb, ltb, length, take}
+use Prim.Native.Nat.{ℕ, zero, suc}
+use Rattle.std.specs.Prelude.{◌≡◌, refl, false, T, eqb, ltb, length}
 use Rattle.std.proofs.Math.Path.{ap, ap₂}
 use Rattle.std.proofs.Common.{◌∙◌, arith, le-ltb}
 use mathlib.Core.List.{List, [], ◌∷◌, ◌++◌}
@@ -12,21 +12,17 @@ use Rattle.replica.specs.Replica.{Replica}
 use Rattle.replica.specs.Limits.{Limits, full, limits_of, broken, well_formed}
 use Rattle.replica.proofs.LimitsFacts.{unbroken_right}
 use Rattle.replica.specs.History.{Event, step}
-use Rattle.replica.specs.HistoryLaws.{fair}
-use Rattle.replica.specs.LimitLaws.{fits}
 use Rattle.replica.proofs.LimitLaws.{step_well_formed}
 use Rattle.layout.specs.Fields.{Bytes}
 use Rattle.layout.specs.Clock.{narrow}
-use Rattle.layout.specs.Image.{encode, image_of, good_image}
+use Rattle.layout.specs.Image.{encode, image_of}
 use Rattle.layout.specs.Fits.{Fits}
 use Rattle.layout.proofs.Parts.{sound_narrow}
 use Rattle.layout.proofs.Round.{bytes_encode}
 use Rattle.layout.proofs.MainFacts.{at_most, good_encode, image_encode, good_formed, good_fits}
 use Rattle.results.specs.declared.Written.{Written}
 use Rattle.results.specs.Call.{Call, finish_of, number_of, answered, answer_of, Meets}
-use Rattle.results.specs.Laws.{Orderly}
 use Rattle.results.proofs.Laws.{done_exactly, refused_keeps, granted_writes}
-use Rattle.claims.specs.Fitting.{FitsEvent}
 use Rattle.claims.proofs.FittingFacts.{step_fits}
 use Rattle.claims.specs.Granted.{WellFormed, Granted, Roomy, image, Fit, Does}
 

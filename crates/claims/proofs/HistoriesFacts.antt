@@ -14,7 +14,7 @@ use Rattle.replica.specs.Listed.{listed}
 use Rattle.replica.specs.WellFormed.{sound}
 use Rattle.replica.specs.Limits.{full}
 use Rattle.replica.proofs.LimitsFacts.{well_formed_from}
-use Rattle.replica.specs.History.{Event, apply, step, run}
+use Rattle.replica.specs.History.{apply, step, run}
 use Rattle.replica.specs.HistoryLaws.{fair}
 use Rattle.replica.proofs.HistoryLaws.{run_judged}
 use Rattle.replica.specs.StaysDown.{forgets}
@@ -23,11 +23,10 @@ use Rattle.layout.specs.Fields.{Bytes}
 use Rattle.layout.specs.Image.{image_of}
 use Rattle.layout.proofs.MainFacts.{good_formed}
 use Rattle.results.specs.declared.Written.{Written}
-use Rattle.results.specs.Call.{Meets}
 use Rattle.operations.specs.declared.Op.TheVariants.{Remove}
 use Rattle.claims.specs.Granted.{WellFormed, Granted, image, Fit}
 use Rattle.claims.proofs.GrantedFacts.{granted_fit, granted_well_formed, granted_says}
-use Rattle.claims.specs.Requests.{Request, apply_op, call_on, event_of, Lent}
+use Rattle.claims.specs.Requests.{Request, apply_op, event_of, Lent}
 use Rattle.claims.proofs.RequestsFacts.{does}
 use Rattle.claims.specs.Histories.{Answers, History, Unforgotten, Ran, ends, goes}
 

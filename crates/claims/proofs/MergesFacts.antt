@@ -15,7 +15,7 @@ use Rattle.replica.specs.History.{step}
 use Rattle.layout.specs.Image.{encode, image_of, good_image}
 use Rattle.layout.proofs.MainFacts.{good_formed}
 use Rattle.results.specs.declared.Written.{Written}
-use Rattle.results.specs.Call.{answered, Meets}
+use Rattle.results.specs.Call.{answered}
 use Rattle.results.proofs.Laws.{argument_exactly}
 use Rattle.merging.specs.Merge.{merge_call}
 use Rattle.claims.specs.Granted.{WellFormed, Granted, Roomy, image}

@@ -1,5 +1,5 @@
 -- What is proved of specs/Requests.antt.
-use Rattle.std.specs.Prelude.{ℕ, ◌≡◌, refl, Bool, true, false, not, ◌&&◌, List, [], ◌∷◌, T, leb, length}
+use Rattle.std.specs.Prelude.{ℕ, ◌≡◌, refl, Bool, true, false, not, ◌&&◌, List, T, leb, length}
 use Rattle.std.proofs.Common.{sym, arith, le→leb, length-take}
 use Rattle.std.proofs.lemmas.Bool.{false≢true}
 use Rattle.tables.specs.Truth.{and_l, and_i}
@@ -11,17 +11,13 @@ use Rattle.clocks.specs.declared.VClock.{VClock}
 use Rattle.clocks.specs.VClock.{dots_of, normalised, few, dots_normal}
 use Rattle.replica.specs.Limits.{full}
 use Rattle.replica.proofs.LimitsFacts.{well_formed_from}
-use Rattle.replica.specs.History.{Event, Apply, MergeWith, MergeInto, Reset, Add as Adds, Remove as Removes, apply, step}
+use Rattle.replica.specs.History.{apply, step}
 use Rattle.replica.specs.HistoryLaws.{fair}
 use Rattle.replica.specs.LimitLaws.{fits}
-use Rattle.layout.specs.Fields.{Bytes}
-use Rattle.layout.specs.Fits.{FitMembers, FitsClock}
 use Rattle.layout.specs.Image.{good_image, image_of}
 use Rattle.layout.proofs.MainFacts.{good_formed, good_fits}
-use Rattle.results.specs.Call.{Call}
 use Rattle.results.specs.Laws.{Orderly}
 use Rattle.merging.specs.Merge.{merge_call}
-use Rattle.operations.specs.declared.Op.{Op}
 use Rattle.operations.specs.declared.Op.TheVariants.{Add, Remove}
 use Rattle.operations.specs.Calls.{operated, unfit_arguments, apply_call, reset_call}
 use Rattle.claims.specs.Granted.{Does}

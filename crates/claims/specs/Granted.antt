@@ -1,29 +1,17 @@
 -- What a caller has in hand after a call on an image: of a granted one, the image of what the rule gives; of a refused one, what was there.
-use Prim.Native.Nat.{ℕ, zero, suc, ◌≤◌}
-use Rattle.std.specs.Prelude.{◌≡◌, refl, false, T, eqb, ltb, length, take}
-use Rattle.std.proofs.Math.Path.{ap, ap₂}
-use Rattle.std.proofs.Common.{◌∙◌, arith, le-ltb}
-use mathlib.Core.List.{List, [], ◌∷◌, ◌++◌}
-use Rattle.std.proofs.Math.Dec.{eqb-suc-zero}
-use Rattle.tables.specs.Table.{pick}
-use Rattle.tables.specs.Refusal.{Refusal, ◌if◌, first_of, NoneApplies}
-
-use Rattle.replica.specs.Replica.{Replica}
-use Rattle.replica.specs.Limits.{Limits, full, limits_of, broken, well_formed}
-
+use Prim.Native.Nat.{ℕ, ◌≤◌}
+use Rattle.std.specs.Prelude.{◌≡◌, T, length, take}
+use mathlib.Core.List.{List}
+use Rattle.tables.specs.Refusal.{NoneApplies}
+use Rattle.replica.specs.Limits.{full}
 use Rattle.replica.specs.History.{Event, step}
 use Rattle.replica.specs.HistoryLaws.{fair}
 use Rattle.replica.specs.LimitLaws.{fits}
-
 use Rattle.layout.specs.Fields.{Bytes}
-use Rattle.layout.specs.Clock.{narrow}
-use Rattle.layout.specs.Image.{encode, image_of, good_image}
-use Rattle.layout.specs.Fits.{Fits}
-
+use Rattle.layout.specs.Image.{image_of, good_image}
 use Rattle.results.specs.declared.Written.{Written}
-use Rattle.results.specs.Call.{Call, finish_of, number_of, answered, answer_of, Meets}
+use Rattle.results.specs.Call.{Call}
 use Rattle.results.specs.Laws.{Orderly}
-
 use Rattle.claims.specs.Fitting.{FitsEvent}
 
 -- the bytes are the image of a well-formed replica

@@ -1,33 +1,15 @@
 -- Histories of calls on images, and what is taken down in them.
-use Rattle.std.specs.Prelude.{ℕ, ◌≤◌, ◌<◌, ◌≡◌, refl, Bool, true, false, ◌||◌, List, [], ◌∷◌, T, eqb}
-use Rattle.std.proofs.Common.{sym, ◌∙◌, eqb-true}
-use Rattle.std.proofs.Math.Path.{ap}
-use Rattle.std.proofs.lemmas.Bool.{false≢true}
-use Rattle.tables.specs.Truth.{and_i}
+use Rattle.std.specs.Prelude.{ℕ, ◌≡◌, false, List, [], ◌∷◌, T, eqb}
 use Rattle.tables.specs.Table.{pick, any, every}
-use Rattle.dots.specs.Clock.{count, normal}
-use Rattle.clocks.specs.declared.VClock.{VClock}
-use Rattle.clocks.specs.VClock.{dots_of}
-use Rattle.replica.specs.Replica.{Replica, is_in, holds}
-use Rattle.replica.specs.Rules.{remove}
-use Rattle.replica.specs.Listed.{listed}
-use Rattle.replica.specs.WellFormed.{sound}
 use Rattle.replica.specs.Limits.{full}
-
-use Rattle.replica.specs.History.{Event, apply, step, run}
+use Rattle.replica.specs.History.{Event, run}
 use Rattle.replica.specs.HistoryLaws.{fair}
-
 use Rattle.replica.specs.StaysDown.{forgets}
-
-use Rattle.layout.specs.Fields.{Bytes}
 use Rattle.layout.specs.Image.{image_of}
-
 use Rattle.results.specs.declared.Written.{Written}
 use Rattle.results.specs.Call.{Meets}
-use Rattle.operations.specs.declared.Op.TheVariants.{Remove}
-use Rattle.claims.specs.Granted.{WellFormed, Granted, image, Fit}
-
-use Rattle.claims.specs.Requests.{Request, apply_op, call_on, event_of, Lent}
+use Rattle.claims.specs.Granted.{WellFormed, image}
+use Rattle.claims.specs.Requests.{Request, call_on, event_of, Lent}
 
 -- the promise of a request on an image: r is its answer, and `after` are the output's bytes where `before` was lent
 abbrev pub Answers : Request → List ℕ → List ℕ → Written → List ℕ → Type 0

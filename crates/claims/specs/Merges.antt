@@ -1,26 +1,13 @@
 -- Merges of images: where both are well-formed and the output has room for any image, the merge of the two replicas decides.
-use Rattle.std.specs.Prelude.{ℕ, ◌<◌, ◌≡◌, refl, ◌↔◌, Bool, true, false, not, List, [], T, eqb, length}
-use Rattle.std.proofs.Common.{sym, ap, ◌∙◌, arith}
-use Rattle.std.proofs.lemmas.Bool.{false≢true}
+use Rattle.std.specs.Prelude.{ℕ, ◌≡◌, Bool, not, List, [], eqb, length}
 use Rattle.tables.specs.Table.{pick}
-use Rattle.tables.specs.Refusal.{NoneApplies, first_of}
-
-use Rattle.dots.specs.Rising.{true_from}
 use Rattle.replica.specs.Replica.{Replica}
-use Rattle.replica.specs.Rules.{merge}
-use Rattle.replica.specs.WellFormed.{sound}
 use Rattle.replica.specs.Limits.{full, broken}
-
-use Rattle.replica.specs.History.{step}
-use Rattle.layout.specs.Image.{encode, image_of, good_image}
-
+use Rattle.layout.specs.Image.{encode}
 use Rattle.results.specs.declared.Written.{Written}
 use Rattle.results.specs.Call.{answered, Meets}
-
 use Rattle.merging.specs.Merge.{merge_call}
-use Rattle.claims.specs.Granted.{WellFormed, Granted, Roomy, image}
-
-use Rattle.claims.specs.Requests.{merge_with}
+use Rattle.claims.specs.Granted.{image}
 
 -- the promise of merge(a, b, out): r is its answer, and `after` are the output's bytes where `before` was lent
 abbrev pub Merges : List ℕ → List ℕ → List ℕ → Written → List ℕ → Type 0

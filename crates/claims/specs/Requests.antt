@@ -1,30 +1,16 @@
 -- The calls that write a replica, as data: what is asked of an image, the call that answers it, and what the rules of document 01 do.
-use Rattle.std.specs.Prelude.{ℕ, ◌≡◌, refl, Bool, true, false, not, ◌&&◌, List, [], ◌∷◌, T, leb, length}
-use Rattle.std.proofs.Common.{sym, arith, le→leb, length-take}
-use Rattle.std.proofs.lemmas.Bool.{false≢true}
-use Rattle.tables.specs.Truth.{and_l, and_i}
-use Rattle.tables.specs.Ascending.{before, ascending}
-use Rattle.dots.specs.Clock.{normal}
-use Rattle.dots.specs.ClockLaws.{normal_to}
-use Rattle.dots.specs.Rising.{true_from}
+use Rattle.std.specs.Prelude.{ℕ, List, [], ◌∷◌}
 use Rattle.clocks.specs.declared.VClock.{VClock}
-use Rattle.clocks.specs.VClock.{dots_of, normalised, few, dots_normal}
-use Rattle.replica.specs.Limits.{full}
-
-use Rattle.replica.specs.History.{Event, Apply, MergeWith, MergeInto, Reset, Add as Adds, Remove as Removes, apply, step}
-use Rattle.replica.specs.HistoryLaws.{fair}
-use Rattle.replica.specs.LimitLaws.{fits}
+use Rattle.clocks.specs.VClock.{dots_of}
+use Rattle.replica.specs.History.{Event, Apply, MergeWith, MergeInto, Reset, Add as Adds, Remove as Removes}
 use Rattle.layout.specs.Fields.{Bytes}
 use Rattle.layout.specs.Fits.{FitMembers, FitsClock}
-use Rattle.layout.specs.Image.{good_image, image_of}
-
+use Rattle.layout.specs.Image.{image_of}
 use Rattle.results.specs.Call.{Call}
-use Rattle.results.specs.Laws.{Orderly}
 use Rattle.merging.specs.Merge.{merge_call}
 use Rattle.operations.specs.declared.Op.{Op}
 use Rattle.operations.specs.declared.Op.TheVariants.{Add, Remove}
-use Rattle.operations.specs.Calls.{operated, unfit_arguments, apply_call, reset_call}
-use Rattle.claims.specs.Granted.{Does}
+use Rattle.operations.specs.Calls.{apply_call, reset_call}
 
 -- an operation with its clock and members; a merge with other bytes, where the image is the first or the second of the two; a reset
 pub data Request : Type 0 where

@@ -1,0 +1,3 @@
+-- The notions of the theorems on offices
+pub mod Network
+pub mod Gaps
