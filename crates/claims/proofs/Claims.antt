@@ -3,16 +3,18 @@
 -- Nothing is known of a call here but its promise. `Answers q a before r after` is the promise of a call that writes a replica: q is what is asked of the
 -- bytes a (an operation, a merge, a reset), `before` the output that was lent, r the answer, `after` the output's bytes then. `Merges a b before r after` is the
 -- promise of a merge. So a call that refuses everything, writes a constant, copies a side, or answers 0 and writes nothing, falls to these theorems.
-use Rattle.std.specs.Prelude.{ℕ, ◌≤◌, ◌<◌, ◌≡◌, ◌↔◌, ◌⊎◌, true, false, List, [], ◌∷◌, T, length, drop}
-use Rattle.std.proofs.Common.{sym, ap, ◌∙◌, arith}
+use Rattle.std.specs.Prelude.{ℕ, ◌/◌, ◌≤◌, ◌<◌, ◌^◌, ◌≡◌, ◌↔◌, ◌⊎◌, true, false, List, [], ◌∷◌, T, length, drop}
+use Rattle.std.proofs.Common.{sym, ap, ap₂, ◌∙◌, arith}
 use Rattle.std.proofs.Math.Logic.{inl, inr, ⊎_elim}
-use Rattle.tables.specs.Table.{All}
+use Rattle.tables.specs.Ascending.{ascending, before}
+use Rattle.tables.specs.Table.{All, all_both}
 use Rattle.tables.specs.Refusal.{Refusal, NoneApplies, First}
 use Rattle.dots.specs.declared.Dot.{Dot}
+use Rattle.dots.specs.Dot.{actor_of}
 use Rattle.dots.specs.Clock.{count, covers}
 use Rattle.clocks.specs.declared.VClock.{VClock}
 use Rattle.clocks.specs.VClock.{dots_of}
-use Rattle.replica.specs.Replica.{Replica, is_in, holds}
+use Rattle.replica.specs.Replica.{Replica, entry, is_in, holds}
 use Rattle.replica.specs.Rules.{merge, settled}
 use Rattle.replica.specs.Listed.{listed}
 use Rattle.replica.specs.Limits.{full, limits_of, broken, Within, well_formed}
@@ -22,30 +24,49 @@ use Rattle.replica.specs.HistoryLaws.{fair}
 use Rattle.replica.proofs.LimitLaws.{reset_number, remove_number, add_number}
 use Rattle.replica.specs.Membership.{Kept}
 use Rattle.replica.specs.Merged.{Merged}
-use Rattle.replica.proofs.MergeLaws.{merge_says, merge_members, merge_commutes, merge_associates, merge_itself}
+use Rattle.replica.proofs.MergeLaws.{merge_says, merge_members, merge_commutes, merge_associates, merge_itself, merge_settled}
 use Rattle.replica.specs.AddLaws.{Added}
 use Rattle.replica.proofs.AddLaws.{add_seen, added}
 use Rattle.replica.specs.RemoveLaws.{Removed}
 use Rattle.replica.proofs.RemoveLaws.{removed}
 use Rattle.replica.specs.ResetLaws.{WasReset}
 use Rattle.replica.proofs.ResetLaws.{was_reset}
+use Rattle.replica.specs.StaysDown.{forgets}
+use Rattle.offices.proofs.Network.{interchange as interchanged, merge_again}
+use Rattle.offices.proofs.Anywhere.{remove_anywhere as removed_anywhere, add_not_behind}
+use Rattle.offices.proofs.Again.{remove_twice, removes_commute, add_twice}
+use Rattle.offices.proofs.Settled.{add_settled, remove_settled}
+use Rattle.offices.proofs.Limits.{covered_remove}
 use Rattle.layout.specs.Fields.{Bytes}
-use Rattle.layout.specs.Fits.{Fits}
+use Rattle.layout.specs.Fits.{Fits, FitMembers}
 use Rattle.layout.specs.Image.{encode, image_of, good_image}
-use Rattle.layout.proofs.MainFacts.{accepted, encode_good, good_formed, good_length}
+use Rattle.layout.specs.Main.{empty_replica}
+use Rattle.layout.proofs.MainFacts.{accepted, empty_length, encode_good, good_formed, good_length}
 use Rattle.results.specs.declared.Written.{Written}
-use Rattle.results.specs.Call.{table_of, answered}
+use Rattle.results.specs.Call.{table_of, answered, Meets}
 use Rattle.results.proofs.CallFacts.{meets_once}
-use Rattle.results.proofs.Laws.{number_right, number_lowest, limit_exactly, done_exactly, refused_keeps, granted_writes}
+use Rattle.results.proofs.Laws.{number_right, number_lowest, argument_exactly, limit_exactly, room_exactly, done_exactly, refused_keeps, granted_writes}
+use Rattle.operations.specs.declared.Op.{Op}
 use Rattle.operations.specs.declared.Op.TheVariants.{Add, Remove}
+use Rattle.reading.specs.Calls.{empty_call}
+use Rattle.replies.specs.Lent.{clock_lent}
 use Rattle.claims.specs.Granted.{WellFormed, Granted, Roomy, image}
 use Rattle.claims.proofs.GrantedFacts.{granted_fit, granted_well_formed, granted_says}
-use Rattle.claims.specs.Requests.{Request, apply_op, merge_with, reset_by, call_on, event_of, Lent}
-use Rattle.claims.proofs.RequestsFacts.{in_order, does}
+use Rattle.claims.specs.Requests.{Request, apply_op, merge_with, merge_into, reset_by, call_on, event_of, Lent}
+use Rattle.claims.proofs.RequestsFacts.{in_order, not_done, does}
 use Rattle.claims.specs.Merges.{Merges, Same}
-use Rattle.claims.proofs.MergesFacts.{well_formed_sound, within_limits, outcome, same, merged_formed, merged_says, first_side, second_side}
+use Rattle.claims.proofs.MergesFacts.{well_formed_sound, within_limits, outcome, same, merged_formed, merged_says, unmoved, joined, first_side, second_side}
 use Rattle.claims.specs.Histories.{Answers, History, Unforgotten}
-use Rattle.claims.proofs.HistoriesFacts.{stays_down, comes_back_new}
+use Rattle.claims.proofs.HistoriesFacts.{granted_goes, stays_down, comes_back_new}
+use Rattle.claims.specs.Shown.{shown}
+use Rattle.claims.proofs.Shown.{shown_taken_out, newer}
+use Rattle.claims.specs.Network.{SameOnes, Gathers}
+use Rattle.claims.proofs.Network.{same_gathered}
+use Rattle.claims.specs.Calls.{EmptyReplies, MergeReplies, AddReplies, RemoveReplies, ResetReplies}
+use Rattle.claims.specs.InC.{apart, Replied, adding, removing, resetting, RepliedHistory}
+use Rattle.claims.proofs.InC.{one_number, in_c, empty_meets, lent_add, lent_remove, lent_reset, history_in_c}
+use Rattle.claims.specs.Anywhere.{NotBehind}
+use Rattle.claims.proofs.Anywhere.{was_formed, made_again, made_anywhere, either_order, clock_normal}
 
 -- ---- 1. Any bytes are taken, and the work is done or the lowest number that applies is returned
 
@@ -72,13 +93,26 @@ module _ (q : Request) (a : List ℕ) {before after : List ℕ} {r : Written} (k
   pub lowest : All (λ p. p.applies ≡ true → r.no ≤ p.number) (table_of full (call_on q a) (length before))
   lowest = number_lowest full (call_on q a) before r after kept (in_order q a)
 
+  -- and where one applies the answer isn't 0
+  pub lowest_given : All (λ p. p.applies ≡ true → (0 < r.no) × (r.no ≤ p.number)) (table_of full (call_on q a) (length before))
+  lowest_given = all_both (λ p. p.applies ≡ true → 0 < r.no) (λ p. p.applies ≡ true → r.no ≤ p.number) (λ p. p.applies ≡ true → (0 < r.no) × (r.no ≤ p.number)) (table_of full (call_on q a) (length before))
+      (λ p u v t. (u t, v t)) (not_done q a kept) lowest
+
   -- each "given exactly when" its condition holds and none before it does
   pub refused_with : (k : ℕ) → 0 < k → (r.no ≡ k) ↔ First (table_of full (call_on q a) (length before)) k
   refused_with = number_right full (call_on q a) before r after kept
 
+  -- 1 to 5: exactly when the arguments are refused so
+  pub refused_by_argument : (k : ℕ) → 0 < k → k < 6 → (r.no ≡ k) ↔ First (arguments q a) k
+  refused_by_argument = argument_exactly full (call_on q a) before r after kept (in_order q a)
+
   -- 6 to 9: a limit refusal exactly when the arguments pass and the finished result breaks that limit, and none before it
   pub refused_by_limit : (k : ℕ) → 5 < k → k < 10 → (r.no ≡ k) ↔ (NoneApplies (arguments q a) × First (limits_of full (finished q a)) k)
   refused_by_limit = limit_exactly full (call_on q a) before r after kept (in_order q a)
+
+  -- 10: exactly when they pass, the finished result is within the limits, and "the output is shorter than the result"
+  pub refused_for_room : (r.no ≡ 10) ↔ (NoneApplies (arguments q a) × Within full (finished q a) × (length before < length (encode (finished q a))))
+  refused_for_room = room_exactly full (call_on q a) before r after kept (in_order q a)
 
   -- granted exactly when the arguments pass, the finished result is within the limits, and the output has room for it
   pub granted_exactly : Granted r ↔ (NoneApplies (arguments q a) × Within full (finished q a) × (length (encode (finished q a)) ≤ length before))
@@ -88,7 +122,7 @@ module _ (q : Request) (a : List ℕ) {before after : List ℕ} {r : Written} (k
   pub unchanged : (Granted r → ⊥) → (after ≡ before) × (r.len ≡ 0)
   unchanged = refused_keeps full (call_on q a) before r after kept
 
-  -- ---- 2. A granted call writes the image of what document 01's rule gives
+  -- ---- 2. A granted call writes the image of what the rule of docs/RULES.md, 4, gives
 
   -- ".. and leaves later bytes unchanged"
   pub later_bytes : Granted r → (drop r.len after ≡ drop r.len before) × (length after ≡ length before)
@@ -107,7 +141,7 @@ module _ (q : Request) (a : List ℕ) {before after : List ℕ} {r : Written} (k
     pub was_well_formed : WellFormed a
     was_well_formed = record { bytes = bytes; good = (granted_fit (does q a lent) bytes kept done).image_good }
 
--- the four rules, sentence by sentence: `Merged`, `Added`, `Removed` and `WasReset` have document 01's, and each fixes its result
+-- the four rules, sentence by sentence: `Merged`, `Added`, `Removed` and `WasReset` have the rules', and each fixes its result
 module _ (a : List ℕ) {before after : List ℕ} {r : Written} (bytes : Bytes a) (done : Granted r) where
   pub merges : (b : List ℕ) → Bytes b → Merges a b before r after → Merged (image_of a) (image_of b) (image_of (image r after))
   unfolding step fair
@@ -134,6 +168,16 @@ module _ (a : List ℕ) {before after : List ℕ} {r : Written} (bytes : Bytes a
   pub resets : (c : VClock) → Lent (reset_by c) → Answers (reset_by c) a before r after → WasReset (dots_of c) (image_of a) (image_of (image r after))
   unfolding step
   resets c l m = rw (by_rule (reset_by c) a m bytes l done) (was_reset (dots_of c) (image_of a) (well_formed_sound (was_well_formed (reset_by c) a m bytes l done)))
+
+-- "the empty replica is 28 bytes": a call that writes it is granted exactly if the output has room for them
+pub empties : {before after : List ℕ} {r : Written} → Meets full empty_call before r after → (Granted r ↔ (28 ≤ length before)) × (Granted r → image r after ≡ encode empty_replica)
+unfolding ascending before
+empties {before} {after} {r} kept =
+    let d = done_exactly full empty_call before r after kept tt in
+    let e = empty_length in (
+      (λ g. let k = (d.0 g).2 in omega arith, λ k. d.1 (tt, record { actors_fit = omega arith; members_fit = omega arith; waiting_fit = omega arith; named_fit = tt }, omega arith)),
+      λ g. (granted_writes full empty_call before r after kept tt g).image_is,
+    )
 
 -- ---- which limits a call can break
 
@@ -168,6 +212,15 @@ module _ (a : List ℕ) {before after : List ℕ} {r : Written} (k : ℕ) (above
   reset_limits c l m =
       let b = by_limit (reset_by c) a l m k above below number in
       ⊎_elim (λ z. absurd (omega arith)) (λ z. omega arith) (reset_number full (image_of a) b.0 (dots_of c))
+
+-- and a remove whose clock the replica's own covers, so that it doesn't wait, none
+pub covered_remove_limits : (a : List ℕ) (c : VClock) (ms : List ℕ) {before after : List ℕ} {r : Written} → Lent (apply_op Remove c ms) → Answers (apply_op Remove c ms) a before r after
+    → covers (image_of a).clock (dots_of c) ≡ true → (k : ℕ) → 5 < k → k < 10 → r.no ≡ k → ⊥
+unfolding step apply
+covered_remove_limits a c ms l m e k above below number =
+    let b = by_limit (apply_op Remove c ms) a l m k above below number in
+    let z = covered_remove full (image_of a) b.0 (dots_of c) ms e in
+    omega arith
 
 -- ---- images
 
@@ -227,3 +280,149 @@ module _ (a : List ℕ) (c : VClock) (ms : List ℕ) {before after z : List ℕ}
   pub back_by_new : (m : ℕ) → T (listed ms m) → ((x n : ℕ) → 0 < n → n ≤ count (dots_of c) x → Unforgotten later x n)
       → T (is_in (image_of z) m) → (x : ℕ) × (n : ℕ) × T (holds (image_of z) m x n) × (count (dots_of c) x < n)
   back_by_new = comes_back_new a c ms bytes lent taken_down done history
+
+  -- and whatever `contains` shows of a member that was taken down is newer, actor by actor
+  pub shown_newer : (m x : ℕ) → T (listed ms m) → ((n : ℕ) → 0 < n → n ≤ count (dots_of c) x → Unforgotten later x n)
+      → (count (entry (image_of z) m) x ≡ 0) ⊎ (count (dots_of c) x < count (entry (image_of z) m) x)
+  shown_newer = newer a c ms bytes lent taken_down done history
+
+-- What is shown can be taken down: by the clock that `contains` shows of a member, a remove of it is granted, whatever is full, and the member is out.
+pub shown_goes : (a : List ℕ) (m : ℕ) {x y : List ℕ} {r : Written} (w : WellFormed a) → m < 2 ^ 32 → Roomy x → Answers (apply_op Remove (shown a m) (m ∷ [])) a x r y
+    → Granted r × (is_in (image_of (image r y)) m ≡ false)
+shown_goes a m w = shown_taken_out a m w
+
+-- ---- 5. A network of offices: each has bytes, and merges those that come to it
+
+-- What was merged may come again, any number of times: the merge is granted, and changes no byte.
+pub again : (a b : List ℕ) {x₁ x₂ y₁ y₂ : List ℕ} {r₁ r₂ : Written} → Bytes a → Bytes b → Merges a b x₁ r₁ y₁ → Granted r₁ → Roomy x₂ → Merges (image r₁ y₁) b x₂ r₂ y₂
+    → Granted r₂ × (image r₂ y₂ ≡ image r₁ y₁)
+again a b p q m g room n =
+    let j = joined a b p q m g in
+    unmoved j.is_formed
+    (ap (λ (A : Replica). merge A (image_of b)) j.says ∙ merge_again (image_of a) (image_of b) (well_formed_sound j.first_formed) (well_formed_sound j.second_formed) ∙ sym j.says)
+    (outcome j.is_formed j.second_formed room n)
+
+-- Two merges of two, merged, in the other pairing: where the four inner ones are granted, the two outer ones give the same number, length and bytes.
+module _ (a b c d : List ℕ) {x₁ x₂ x₃ x₄ x₅ x₆ y₁ y₂ y₃ y₄ y₅ y₆ : List ℕ} {r₁ r₂ r₃ r₄ r₅ r₆ : Written} (a_bytes : Bytes a) (b_bytes : Bytes b) (c_bytes : Bytes c) (d_bytes : Bytes d)
+    (ab : Merges a b x₁ r₁ y₁) (ab_granted : Granted r₁) (cd : Merges c d x₂ r₂ y₂) (cd_granted : Granted r₂)
+    (ac : Merges a c x₃ r₃ y₃) (ac_granted : Granted r₃) (bd : Merges b d x₄ r₄ y₄) (bd_granted : Granted r₄) (room₅ : Roomy x₅) (room₆ : Roomy x₆) where
+  pub interchange : Merges (image r₁ y₁) (image r₂ y₂) x₅ r₅ y₅ → Merges (image r₃ y₃) (image r₄ y₄) x₆ r₆ y₆ → Same r₅ y₅ r₆ y₆
+  interchange m n =
+      let e = joined a b a_bytes b_bytes ab ab_granted in
+      let f = joined c d c_bytes d_bytes cd cd_granted in
+      let g = joined a c a_bytes c_bytes ac ac_granted in
+      let h = joined b d b_bytes d_bytes bd bd_granted in
+      same
+      (ap₂ merge e.says f.says
+      ∙ interchanged (image_of a) (image_of b) (image_of c) (image_of d) (well_formed_sound e.first_formed) (well_formed_sound e.second_formed) (well_formed_sound f.first_formed) (well_formed_sound f.second_formed)
+      ∙ sym (ap₂ merge g.says h.says))
+      (outcome e.is_formed f.is_formed room₅ m) (outcome g.is_formed h.is_formed room₆ n)
+
+-- Offices converge: two that gathered the same images, at least two, by granted merges in any order and pairing, with any repeats, have the same bytes.
+pub converges : {a b c d y z : List ℕ} {bs ds : List (List ℕ)} → Gathers a (b ∷ bs) y → Gathers c (d ∷ ds) z → SameOnes (a ∷ b ∷ bs) (c ∷ d ∷ ds) → y ≡ z
+converges = same_gathered
+
+-- Where an operation was made doesn't matter. Let it be granted at one office, and that office's merge with another too: then the merge with the other after
+-- the operation, and the operation after the merge, give the same number, length and bytes.
+module _ (a b : List ℕ) {x₁ x₂ x₃ x₄ y₁ y₂ y₃ y₄ : List ℕ} {r₁ r₂ r₃ r₄ : Written} (a_bytes : Bytes a) (b_bytes : Bytes b) (merged : Merges a b x₂ r₂ y₂) (merged_granted : Granted r₂)
+    (room₃ : Roomy x₃) (room₄ : Roomy x₄) where
+  -- so every remove
+  pub remove_anywhere : (c : VClock) (ms : List ℕ) → Lent (apply_op Remove c ms) → Answers (apply_op Remove c ms) a x₁ r₁ y₁ → Granted r₁
+      → Merges (image r₁ y₁) b x₃ r₃ y₃ → Answers (apply_op Remove c ms) (image r₂ y₂) x₄ r₄ y₄ → Same r₃ y₃ r₄ y₄
+  unfolding step apply
+  remove_anywhere c ms l kept done before_it after_it = made_anywhere Remove c ms l a a_bytes kept done b
+      (removed_anywhere (dots_of c) ms (image_of a) (image_of b) (clock_normal a c ms a_bytes l kept done) (well_formed_sound (was_formed Remove c ms l a a_bytes kept done)))
+      b_bytes merged merged_granted room₃ before_it room₄ after_it
+
+  -- and an add at the office that has seen of the dot's actor all that the other has, as the actor's own has. (With a gap an add can make another's vanish.)
+  pub add_anywhere : (d : Dot) (c : VClock) (ms : List ℕ) → Lent (apply_op (Add d) c ms) → NotBehind a b (actor_of d)
+      → Answers (apply_op (Add d) c ms) a x₁ r₁ y₁ → Granted r₁ → Merges (image r₁ y₁) b x₃ r₃ y₃ → Answers (apply_op (Add d) c ms) (image r₂ y₂) x₄ r₄ y₄ → Same r₃ y₃ r₄ y₄
+  unfolding step apply
+  add_anywhere d c ms l ahead kept done before_it after_it = made_anywhere (Add d) c ms l a a_bytes kept done b
+      (λ t. add_not_behind d ms (image_of a) (image_of b) (well_formed_sound (was_formed (Add d) c ms l a a_bytes kept done)) t ahead)
+      b_bytes merged merged_granted room₃ before_it room₄ after_it
+
+-- An operation may come twice: the second time it is granted, and changes no byte.
+module _ (a : List ℕ) {x₁ x₂ y₁ y₂ : List ℕ} {r₁ r₂ : Written} (bytes : Bytes a) (room : Roomy x₂) where
+  pub remove_again : (c : VClock) (ms : List ℕ) → Lent (apply_op Remove c ms) → Answers (apply_op Remove c ms) a x₁ r₁ y₁ → Granted r₁ → Answers (apply_op Remove c ms) (image r₁ y₁) x₂ r₂ y₂
+      → Granted r₂ × (image r₂ y₂ ≡ image r₁ y₁)
+  unfolding step apply
+  remove_again c ms l kept done = made_again Remove c ms l a bytes kept done
+      (remove_twice (dots_of c) ms (image_of a) (clock_normal a c ms bytes l kept done) (well_formed_sound (was_formed Remove c ms l a bytes kept done))) room
+
+  pub add_again : (d : Dot) (c : VClock) (ms : List ℕ) → Lent (apply_op (Add d) c ms) → Answers (apply_op (Add d) c ms) a x₁ r₁ y₁ → Granted r₁ → Answers (apply_op (Add d) c ms) (image r₁ y₁) x₂ r₂ y₂
+      → Granted r₂ × (image r₂ y₂ ≡ image r₁ y₁)
+  unfolding step apply
+  add_again d c ms l kept done = made_again (Add d) c ms l a bytes kept done (add_twice d ms (image_of a) (well_formed_sound (was_formed (Add d) c ms l a bytes kept done))) room
+
+-- Two removes that are both granted on an image, each then made after the other: the same number, length and bytes.
+pub removes_in_either_order : (a : List ℕ) (c : VClock) (ms : List ℕ) (d : VClock) (ns : List ℕ) {x₁ x₂ x₃ x₄ y₁ y₂ y₃ y₄ : List ℕ} {r₁ r₂ r₃ r₄ : Written}
+    → Bytes a → Lent (apply_op Remove c ms) → Lent (apply_op Remove d ns) → Answers (apply_op Remove c ms) a x₁ r₁ y₁ → Granted r₁ → Answers (apply_op Remove d ns) a x₂ r₂ y₂ → Granted r₂
+    → Roomy x₃ → Answers (apply_op Remove d ns) (image r₁ y₁) x₃ r₃ y₃ → Roomy x₄ → Answers (apply_op Remove c ms) (image r₂ y₂) x₄ r₄ y₄ → Same r₃ y₃ r₄ y₄
+unfolding step apply
+removes_in_either_order a c ms d ns bytes k l one g two h = either_order Remove c ms Remove d ns a k l bytes
+    (removes_commute (dots_of c) ms (dots_of d) ns (image_of a) (clock_normal a c ms bytes k one g) (clock_normal a d ns bytes l two h) (well_formed_sound (was_formed Remove c ms k a bytes one g))) one g two h
+
+-- No waiting remove that the replica's own clock covers (as `with_itself` asks): so it is after every granted merge, and a granted operation leaves it so.
+pub merge_settles : (a b : List ℕ) {x y : List ℕ} {r : Written} → Bytes a → Bytes b → Merges a b x r y → Granted r → T (settled (image_of (image r y)))
+merge_settles a b p q m g =
+    let j = joined a b p q m g in
+    rw (j.says, merge_settled (image_of a) (image_of b) (well_formed_sound j.first_formed) (well_formed_sound j.second_formed)) tt
+
+pub stays_settled : (a : List ℕ) (op : Op) (c : VClock) (ms : List ℕ) {x y : List ℕ} {r : Written} → Bytes a → Lent (apply_op op c ms) → Answers (apply_op op c ms) a x r y → Granted r
+    → T (settled (image_of a)) → T (settled (image_of (image r y)))
+unfolding step apply
+stays_settled a (Add d) c ms bytes l kept done t = rw (by_rule (apply_op (Add d) c ms) a kept bytes l done) (add_settled d ms (image_of a) t)
+stays_settled a Remove c ms bytes l kept done t = rw (by_rule (apply_op Remove c ms) a kept bytes l done) (remove_settled (dots_of c) ms (image_of a) t)
+
+-- What one office has taken down, another that has merged its image, as either side, doesn't show again, whatever it does afterwards.
+module _ (a : List ℕ) (c : VClock) (ms : List ℕ) {before after : List ℕ} {r : Written} (bytes : Bytes a) (lent : Lent (apply_op Remove c ms))
+    (taken_down : Answers (apply_op Remove c ms) a before r after) (done : Granted r) where
+  pub stays_elsewhere : (b : List ℕ) {x y z : List ℕ} {s : Written} {later : List Request} → Bytes b → Merges b (image r after) x s y ⊎ Merges (image r after) b x s y → Granted s → History (image s y) later z
+      → (m i n : ℕ) → T (listed ms m) → 0 < n → n ≤ count (dots_of c) i → Unforgotten later i n → holds (image_of z) m i n ≡ false
+  unfolding forgets
+  stays_elsewhere b p m g h = ⊎_elim
+      (λ k. stays_down a c ms bytes lent taken_down done (granted_goes (merge_into b) p k g h))
+      (λ k. stays_down a c ms bytes lent taken_down done (granted_goes (merge_with b) p k g h)) m
+
+-- ---- 6. In C
+
+-- GATELICHEN_NUMBER and GATELICHEN_LENGTH take an answer r apart: `apart r`. `MergeReplies a b out r after`, and so on, is the contract of that function
+-- in crates/exports/src/writes.rt, which crates/exports_c/src/lib.rt repeats. Each keeps the promise of a request, its answer taken apart: so every claim
+-- above is one of C, by these in the place of its promise. They ask only for what the C types say: bytes, 32-bit actors and members, 64-bit counters.
+module _ {out after : List ℕ} {r : ℕ} where
+  pub empty_in_c : EmptyReplies out r after → Meets full empty_call out (apart r) after
+  empty_in_c = empty_meets
+
+  pub merge_in_c : (a b : List ℕ) → Bytes a → Bytes b → MergeReplies a b out r after → Merges a b out (apart r) after
+  merge_in_c a b p q = in_c (merge_with b) a p q
+
+  pub add_in_c : (a : List ℕ) (actor counter : ℕ) (members : List ℕ) → Bytes a → actor < 2 ^ 32 → counter < 2 ^ 64 → FitMembers members → AddReplies a actor counter members out r after
+      → Lent (adding actor counter members) × Answers (adding actor counter members) a out (apart r) after
+  add_in_c a actor counter members p i n ms kept = let l = lent_add actor counter members i n ms in (l, in_c (adding actor counter members) a p l kept)
+
+  pub remove_in_c : (a clock members : List ℕ) → Bytes a → Bytes clock → FitMembers members → RemoveReplies a clock members out r after
+      → Lent (removing clock members) × Answers (removing clock members) a out (apart r) after
+  remove_in_c a clock members p q ms kept = let l = lent_remove clock members q ms in (l, in_c (removing clock members) a p l kept)
+
+  pub reset_in_c : (a clock : List ℕ) → Bytes a → Bytes clock → ResetReplies a clock out r after → Lent (resetting clock) × Answers (resetting clock) a out (apart r) after
+  reset_in_c a clock p q kept = let l = lent_reset clock q in (l, in_c (resetting clock) a p l kept)
+
+-- so "The lowest number that applies is given", in the upper half of the answer
+pub lowest_in_c : (q : Request) (a : List ℕ) {before after : List ℕ} {r : ℕ} → Bytes a → Lent q → Replied q a before r after
+    → All (λ p. p.applies ≡ true → (0 < r / 4294967296) × (r / 4294967296 ≤ p.number)) (table_of full (call_on q a) (length before))
+lowest_in_c q a bytes lent kept = lowest_given q a (in_c q a bytes lent kept)
+
+-- swapping the two sides of a merge gives the same answer and the same bytes
+pub swap_in_c : {a b x₁ x₂ y₁ y₂ : List ℕ} {r₁ r₂ : ℕ} → WellFormed a → WellFormed b → Roomy x₁ → Roomy x₂ → MergeReplies a b x₁ r₁ y₁ → MergeReplies b a x₂ r₂ y₂
+    → (r₁ ≡ r₂) × (image (apart r₁) y₁ ≡ image (apart r₂) y₂)
+swap_in_c {a} {b} v w room₁ room₂ m n =
+    let s = swap v w room₁ room₂ (merge_in_c a b v.bytes w.bytes m) (merge_in_c b a w.bytes v.bytes n) in
+    (one_number s.answers, s.bytes)
+
+-- and what gatelichen_remove has taken down stays down, through any later calls
+pub stays_in_c : (a clock members : List ℕ) {before after z : List ℕ} {later : List Request} {r : ℕ} → Bytes a → Bytes clock → FitMembers members → RemoveReplies a clock members before r after → Granted (apart r)
+    → RepliedHistory (image (apart r) after) later z → (m x n : ℕ) → T (listed members m) → 0 < n → n ≤ count (dots_of (clock_lent clock)) x → Unforgotten later x n → holds (image_of z) m x n ≡ false
+stays_in_c a clock members p q ms kept done h =
+    let k = remove_in_c a clock members p q ms kept in
+    stays a (clock_lent clock) members p k.0 k.1 done (history_in_c (is_well_formed (removing clock members) a k.1 p k.0 done).bytes h)

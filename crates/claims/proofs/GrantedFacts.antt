@@ -78,6 +78,10 @@ module _ {c : Call} {a : List ℕ} {e : Event} (does : Does c a e) (bytes : Byte
         let f = result_formed u.0 u.1 in
         ap image_of (written g) ∙ image_encode M f.0 f.1
 
+    -- what isn't refused of the arguments
+    pub granted_passes : Granted r → NoneApplies c.refusals
+    granted_passes g = (unrefused g).0
+
     -- where the arguments pass and the output has room for any image, the limits alone decide: in hand is the image of the result, or one of 6 to 9
     module _ (passed : NoneApplies c.refusals) (roomy : Roomy before) where
       room : broken full M ≡ 0 → ltb (length before) (length (encode M)) ≡ false

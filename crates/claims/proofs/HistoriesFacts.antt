@@ -1,6 +1,6 @@
 -- What is proved of specs/Histories.antt.
 use Rattle.std.specs.Prelude.{ℕ, ◌≤◌, ◌<◌, ◌≡◌, refl, Bool, true, false, ◌||◌, List, [], ◌∷◌, T, eqb}
-use Rattle.std.proofs.Common.{sym, ◌∙◌, eqb-true}
+use Rattle.std.proofs.Common.{sym, ◌∙◌, subst, eqb-true, eq-eqb}
 use Rattle.std.proofs.Math.Path.{ap}
 use Rattle.std.proofs.lemmas.Bool.{false≢true}
 use Rattle.tables.specs.Truth.{and_i}
@@ -29,6 +29,10 @@ use Rattle.claims.proofs.GrantedFacts.{granted_fit, granted_well_formed, granted
 use Rattle.claims.specs.Requests.{Request, apply_op, event_of, Lent}
 use Rattle.claims.proofs.RequestsFacts.{does}
 use Rattle.claims.specs.Histories.{Answers, History, Unforgotten, Ran, ends, goes}
+
+-- a granted call goes on from what it wrote
+pub granted_goes : (q : Request) {a before after z : List ℕ} {later : List Request} {r : Written} → Lent q → Answers q a before r after → Granted r → History (image r after) later z → History a (q ∷ later) z
+granted_goes q {a} {after = after} {z = z} {later = later} {r = r} l kept g h = goes l kept (subst (λ (b : Bool). History (pick b (image r after) a) later z) (sym (eq-eqb r.no 0 g)) h)
 
 neither : (a b : Bool) → (a || b) ≡ false → (a ≡ false) × (b ≡ false)
 neither true b e = absurd (false≢true (sym e))

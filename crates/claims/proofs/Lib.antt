@@ -4,3 +4,8 @@ pub mod GrantedFacts
 pub mod HistoriesFacts
 pub mod MergesFacts
 pub mod RequestsFacts
+pub mod Shown
+pub mod Anywhere
+pub mod Network
+pub mod InC
+pub mod OneAnswer

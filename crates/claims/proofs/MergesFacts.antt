@@ -11,18 +11,19 @@ use Rattle.replica.specs.Rules.{merge}
 use Rattle.replica.specs.WellFormed.{sound}
 use Rattle.replica.specs.Limits.{full, broken}
 use Rattle.replica.proofs.LimitsFacts.{well_formed_from}
-use Rattle.replica.specs.History.{step}
+use Rattle.replica.specs.History.{Event, step}
+use Rattle.layout.specs.Fields.{Bytes}
 use Rattle.layout.specs.Image.{encode, image_of, good_image}
-use Rattle.layout.proofs.MainFacts.{good_formed}
+use Rattle.layout.proofs.MainFacts.{encode_good, good_formed}
 use Rattle.results.specs.declared.Written.{Written}
-use Rattle.results.specs.Call.{answered}
+use Rattle.results.specs.Call.{Call, answered, Meets}
 use Rattle.results.proofs.Laws.{argument_exactly}
 use Rattle.merging.specs.Merge.{merge_call}
-use Rattle.claims.specs.Granted.{WellFormed, Granted, Roomy, image}
-use Rattle.claims.proofs.GrantedFacts.{granted_well_formed, granted_says, in_hand}
+use Rattle.claims.specs.Granted.{WellFormed, Granted, Roomy, image, Does}
+use Rattle.claims.proofs.GrantedFacts.{granted_well_formed, granted_says, granted_passes, in_hand}
 use Rattle.claims.specs.Requests.{merge_with}
-use Rattle.claims.proofs.RequestsFacts.{in_order, does}
-use Rattle.claims.specs.Merges.{Merges, Same, Outcome, side}
+use Rattle.claims.proofs.RequestsFacts.{in_order, does, merge_judges, passed}
+use Rattle.claims.specs.Merges.{Merges, Same, Outcome, Joined, side}
 
 -- ---- one merge
 
@@ -49,6 +50,26 @@ same e m n = record {
   bytes = m.image_is ∙ ap (λ (A : Replica). pick (eqb (broken full A) 0) (encode A) []) e ∙ sym n.image_is;
 }
 
+-- where the arguments pass and the output has room for any image: what is in hand is of the result
+pub outcome_of : {c : Call} {a : List ℕ} {e : Event} (does : Does c a e) → Bytes a → {before after : List ℕ} {r : Written} → Meets full c before r after → NoneApplies c.refusals → Roomy before
+    → Outcome (step e (image_of a)) r after
+outcome_of does bytes kept passed room = let h = in_hand does bytes kept passed room in record { answer_is = h.0; image_is = h.1 }
+
+-- a result that breaks no limit is granted
+pub unbroken : {M : Replica} {r : Written} {after : List ℕ} → broken full M ≡ 0 → Outcome M r after → Granted r
+unfolding answered
+unbroken z o = ap (λ (w : Written). w.no) o.answer_is ∙ z
+
+-- a result that is a well-formed image's replica is granted, and the bytes are that image's
+pub unmoved : {a : List ℕ} {M : Replica} {r : Written} {after : List ℕ} → WellFormed a → M ≡ image_of a → Outcome M r after → Granted r × (image r after ≡ a)
+unmoved {a} {M} w e o =
+    let z : broken full M ≡ 0 = ap (broken full) e ∙ within_limits w in
+    (unbroken z o, o.image_is ∙ rw (z, e) (encode_good a w.bytes w.good))
+
+-- two images of the same replica are the same
+pub same_image : {a b : List ℕ} → WellFormed a → WellFormed b → image_of a ≡ image_of b → a ≡ b
+same_image {a} {b} v w e = sym (encode_good a v.bytes v.good) ∙ ap encode e ∙ encode_good b w.bytes w.good
+
 -- a granted merge of bytes hands on a well-formed image of the merge
 module _ (a b : List ℕ) {before after : List ℕ} {r : Written} (v : WellFormed a) (w : WellFormed b) (kept : Merges a b before r after) (done : Granted r) where
   pub merged_formed : WellFormed (image r after)
@@ -57,6 +78,18 @@ module _ (a b : List ℕ) {before after : List ℕ} {r : Written} (v : WellForme
   pub merged_says : image_of (image r after) ≡ merge (image_of a) (image_of b)
   unfolding step
   merged_says = granted_says (does (merge_with b) a w.bytes) v.bytes kept done
+
+pub joined : (a b : List ℕ) {before after : List ℕ} {r : Written} → Bytes a → Bytes b → Merges a b before r after → Granted r → Joined a b (image r after)
+unfolding step
+joined a b p q kept done =
+    let d = does (merge_with b) a q in
+    let n = rw (merge_judges a b) at (granted_passes d p kept done) in
+    record {
+      first_formed = record { bytes = p; good = passed (good_image a) n.0 };
+      second_formed = record { bytes = q; good = passed (good_image b) n.1.0 };
+      is_formed = granted_well_formed d p kept done;
+      says = granted_says d p kept done;
+    }
 
 side_one : (x y : Bool) → (side x y ≡ 1) ↔ (x ≡ false)
 side_one false y = (λ z. refl, λ z. refl)

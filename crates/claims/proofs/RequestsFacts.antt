@@ -1,21 +1,26 @@
 -- What is proved of specs/Requests.antt.
-use Rattle.std.specs.Prelude.{ℕ, ◌≡◌, refl, Bool, true, false, not, ◌&&◌, List, T, leb, length}
-use Rattle.std.proofs.Common.{sym, arith, le→leb, length-take}
+use Rattle.std.specs.Prelude.{ℕ, zero, suc, ◌<◌, ◌≡◌, refl, Bool, true, false, not, ◌&&◌, List, [], ◌∷◌, T, leb, length}
+use Rattle.std.proofs.Common.{sym, ap, ◌∙◌, arith, le→leb, length-take}
 use Rattle.std.proofs.lemmas.Bool.{false≢true}
 use Rattle.tables.specs.Truth.{and_l, and_i}
 use Rattle.tables.specs.Ascending.{before, ascending}
+use Rattle.tables.specs.Table.{All, all_map, all_any}
+use Rattle.tables.specs.Refusal.{Refusal, ◌if◌, first_of, Numbered}
+use Rattle.tables.proofs.RefusalFacts.{done_right}
 use Rattle.dots.specs.Clock.{normal}
 use Rattle.dots.specs.ClockLaws.{normal_to}
 use Rattle.dots.specs.Rising.{true_from}
 use Rattle.clocks.specs.declared.VClock.{VClock}
 use Rattle.clocks.specs.VClock.{dots_of, normalised, few, dots_normal}
-use Rattle.replica.specs.Limits.{full}
+use Rattle.replica.specs.Limits.{full, limits_of}
 use Rattle.replica.proofs.LimitsFacts.{well_formed_from}
 use Rattle.replica.specs.History.{apply, step}
 use Rattle.replica.specs.HistoryLaws.{fair}
 use Rattle.replica.specs.LimitLaws.{fits}
 use Rattle.layout.specs.Image.{good_image, image_of}
 use Rattle.layout.proofs.MainFacts.{good_formed, good_fits}
+use Rattle.results.specs.declared.Written.{Written}
+use Rattle.results.specs.Call.{table_of, number_of, answered, answer_of, Meets}
 use Rattle.results.specs.Laws.{Orderly}
 use Rattle.merging.specs.Merge.{merge_call}
 use Rattle.operations.specs.declared.Op.TheVariants.{Add, Remove}
@@ -31,9 +36,34 @@ in_order (merge_with b) a = tt
 in_order (merge_into b) a = tt
 in_order (reset_by c) a = tt
 
+-- 1 and 2: a merge judges its two sides, in this order
+pub merge_judges : (a b : List ℕ) → (call_on (merge_with b) a).refusals ≡ (1 if not (good_image a) ∷ 2 if not (good_image b) ∷ [])
+unfolding merge_call
+merge_judges a b = refl
+
+-- no refusal of the whole table has the number 0
+pub all_numbered : (q : Request) (a : List ℕ) (room : ℕ) → Numbered (table_of full (call_on q a) room)
+unfolding apply_call reset_call merge_call unfit_arguments limits_of
+all_numbered (apply_op op c ms) a room = (omega arith, (omega arith, (omega arith, (omega arith, (omega arith, (omega arith, (omega arith, (omega arith, tt))))))))
+all_numbered (merge_with b) a room = (omega arith, (omega arith, (omega arith, (omega arith, (omega arith, (omega arith, (omega arith, tt)))))))
+all_numbered (merge_into b) a room = (omega arith, (omega arith, (omega arith, (omega arith, (omega arith, (omega arith, (omega arith, tt)))))))
+all_numbered (reset_by c) a room = (omega arith, (omega arith, (omega arith, (omega arith, (omega arith, (omega arith, (omega arith, tt)))))))
+
+-- so 0 is answered only where none applies
+pub not_done : (q : Request) (a : List ℕ) {before after : List ℕ} {r : Written} → Meets full (call_on q a) before r after → All (λ p. p.applies ≡ true → 0 < r.no) (table_of full (call_on q a) (length before))
+unfolding answer_of answered number_of
+not_done q a {before} {r = r} kept = go r.no (ap (λ (w : Written). w.no) kept.answer)
+  where
+    table : List Refusal
+    table = table_of full (call_on q a) (length before)
+
+    go : (n : ℕ) → n ≡ first_of table → All (λ p. p.applies ≡ true → 0 < n) table
+    go zero e = all_map (λ p. p.applies ≡ false) (λ p. p.applies ≡ true → 0 < 0) table (λ p u t. absurd (false≢true (sym u ∙ t))) ((done_right table (all_numbered q a (length before))).0 (sym e))
+    go (suc n) e = all_any (λ p. p.applies ≡ true → 0 < suc n) table (λ p t. omega arith)
+
 -- ---- each call does what its rule says
 
-passed : (b : Bool) → not b ≡ false → T b
+pub passed : (b : Bool) → not b ≡ false → T b
 passed true e = tt
 passed false e = absurd (false≢true (sym e))
 

@@ -2,12 +2,13 @@
 use Rattle.std.specs.Prelude.{ℕ, ◌≡◌, Bool, not, List, [], eqb, length}
 use Rattle.tables.specs.Table.{pick}
 use Rattle.replica.specs.Replica.{Replica}
+use Rattle.replica.specs.Rules.{merge}
 use Rattle.replica.specs.Limits.{full, broken}
-use Rattle.layout.specs.Image.{encode}
+use Rattle.layout.specs.Image.{encode, image_of}
 use Rattle.results.specs.declared.Written.{Written}
 use Rattle.results.specs.Call.{answered, Meets}
 use Rattle.merging.specs.Merge.{merge_call}
-use Rattle.claims.specs.Granted.{image}
+use Rattle.claims.specs.Granted.{WellFormed, image}
 
 -- the promise of merge(a, b, out): r is its answer, and `after` are the output's bytes where `before` was lent
 abbrev pub Merges : List ℕ → List ℕ → List ℕ → Written → List ℕ → Type 0
@@ -22,6 +23,13 @@ pub record Same (r : Written) (p : List ℕ) (s : Written) (q : List ℕ) : Type
 pub record Outcome (M : Replica) (r : Written) (after : List ℕ) : Type 0 where
   pub answer_is : r ≡ answered (broken full M) (length (encode M))
   pub image_is : image r after ≡ pick (eqb (broken full M) 0) (encode M) []
+
+-- what a granted merge tells that gave z: both sides are well-formed, and z is a well-formed image of the merge
+pub record Joined (a b z : List ℕ) : Type 0 where
+  pub first_formed : WellFormed a
+  pub second_formed : WellFormed b
+  pub is_formed : WellFormed z
+  pub says : image_of z ≡ merge (image_of a) (image_of b)
 
 -- ---- which side is refused
 

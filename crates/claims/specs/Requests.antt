@@ -1,4 +1,4 @@
--- The calls that write a replica, as data: what is asked of an image, the call that answers it, and what the rules of document 01 do.
+-- The calls that write a replica, as data: what is asked of an image, the call that answers it, and what the rules of docs/RULES.md, 4, do.
 use Rattle.std.specs.Prelude.{ℕ, List, [], ◌∷◌}
 use Rattle.clocks.specs.declared.VClock.{VClock}
 use Rattle.clocks.specs.VClock.{dots_of}

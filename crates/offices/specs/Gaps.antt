@@ -2,7 +2,6 @@
 use Rattle.std.specs.Prelude.{[], ◌∷◌}
 use Rattle.dots.specs.Dot.{dot}
 use Rattle.replica.specs.Replica.{Replica}
-use Rattle.replica.specs.Rules.{add, merge}
 
 abbrev pub empty : Replica
 empty = record { clock = []; entries = []; waiting = [] }
@@ -10,10 +9,3 @@ empty = record { clock = []; entries = []; waiting = [] }
 -- V {2:1}, 7 {2:1}
 abbrev pub seven : Replica
 seven = record { clock = dot 2 1 ∷ []; entries = record { member = 7; clock = dot 2 1 ∷ [] } ∷ []; waiting = [] }
-
--- the add, and then the merge with the other; and the merge, and then the add
-abbrev pub added_first : Replica
-added_first = merge (add (dot 2 4) (0 ∷ []) empty) seven
-
-abbrev pub merged_first : Replica
-merged_first = add (dot 2 4) (0 ∷ []) (merge empty seven)
