@@ -83,7 +83,7 @@ def declared():
     found = set()
     library = lent()
     for path in files(".antt"):
-        if os.path.basename(path) in ("Proof.antt", "Answers.antt", "Invariants.antt"):
+        if os.path.basename(path) in ("Proof.antt", "Answers.antt", "Invariants.antt") and not path.endswith("/proofs/" + os.path.basename(path)):
             continue
         text = bare(open(path, encoding="utf-8").read())
         spec = "/specs/" in path

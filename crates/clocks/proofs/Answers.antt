@@ -43,30 +43,30 @@ dot_there [] (suc n) i h f = absurd (omega arith)
 dot_there (d ∷ l) (suc n) zero h f = refl
 dot_there (d ∷ l) (suc n) (suc i) h f = dot_there l n i (omega arith) (omega arith)
 
-pub dot-gone : (l : List Dot) (n i : ℕ) → n ≤ i → dot_at (take n l) i ≡ none
-dot-gone l zero i h = refl
-dot-gone [] (suc n) i h = refl
-dot-gone (d ∷ l) (suc n) zero h = absurd (omega arith)
-dot-gone (d ∷ l) (suc n) (suc i) h = dot-gone l n i (omega arith)
+pub dot_gone : (l : List Dot) (n i : ℕ) → n ≤ i → dot_at (take n l) i ≡ none
+dot_gone l zero i h = refl
+dot_gone [] (suc n) i h = refl
+dot_gone (d ∷ l) (suc n) zero h = absurd (omega arith)
+dot_gone (d ∷ l) (suc n) (suc i) h = dot_gone l n i (omega arith)
 
 -- ---- two clocks under a rule
 
 -- the walk along both, in places
-pub zip-is : (r : Rule) (a b : VClock) → every normalised (a ∷ b ∷ []) ≡ true → (z : Joined) → z ≡ joined (walked (rule_of r) (dots_of a) (dots_of b))
+pub zip_is : (r : Rule) (a b : VClock) → every normalised (a ∷ b ∷ []) ≡ true → (z : Joined) → z ≡ joined (walked (rule_of r) (dots_of a) (dots_of b))
     → ◌≡◌ {A = VClock} (record { dots = z.dots; len = z.len }) (vclock (zipped r (dots_of a) (dots_of b)))
 unfolding vclock zipped joined
-zip-is r a b e z is =
+zip_is r a b e z is =
     let n = each a b e in
     let w = walked_is (rule_of r) (dots_of a) (dots_of b) (dots_normal a n.0).asc (dots_normal b n.1).asc in
     let j = is ∙ ap joined w in
     λ i. record { dots = (j i).dots; len = (j i).len }
 
-pub covers-is : (a b : VClock) → every normalised (a ∷ b ∷ []) ≡ true → (r : Bool) → r ≡ cover_of (dots_of a) (dots_of b) → r ≡ covers (dots_of a) (dots_of b)
-covers-is a b e r is = let n = each a b e in is ∙ cover_is (dots_of a) (dots_of b) (dots_normal a n.0) (dots_normal b n.1)
+pub covers_is : (a b : VClock) → every normalised (a ∷ b ∷ []) ≡ true → (r : Bool) → r ≡ cover_of (dots_of a) (dots_of b) → r ≡ covers (dots_of a) (dots_of b)
+covers_is a b e r is = let n = each a b e in is ∙ cover_is (dots_of a) (dots_of b) (dots_normal a n.0) (dots_normal b n.1)
 
-pub merge-join : (a b : VClock) → join_call Larger a b ≡ merge_call a b
+pub merge_join : (a b : VClock) → join_call Larger a b ≡ merge_call a b
 unfolding join_call merge_call zipped rule_of merged
-merge-join a b = refl
+merge_join a b = refl
 
 -- under a rule that leaves at most the first one's dots there is room
 module _ (r : Rule) (op : Clock → Clock → Clock) (is : (x y : Clock) → Normal clocks x → Normal clocks y → zipped r x y ≡ op x y)
@@ -87,17 +87,17 @@ module _ (r : Rule) (op : Clock → Clock → Clock) (is : (x y : Clock) → Nor
           simp (e, z, le-ltb 16 (length (op (dots_of a) (dots_of b))) (omega arith))
       go false e = simp e
 
-pub glb-join : (a b : VClock) → join_call Smaller a b ≡ glb_call a b
+pub glb_join : (a b : VClock) → join_call Smaller a b ≡ glb_call a b
 unfolding glb_call zipped rule_of glb
-glb-join = roomy Smaller glb (λ x y nx ny. refl) glb_length
+glb_join = roomy Smaller glb (λ x y nx ny. refl) glb_length
 
-pub intersection-join : (a b : VClock) → join_call Same a b ≡ intersection_call a b
+pub intersection_join : (a b : VClock) → join_call Same a b ≡ intersection_call a b
 unfolding intersection_call zipped rule_of
-intersection-join = roomy Same intersection same_zip intersection_length
+intersection_join = roomy Same intersection same_zip intersection_length
 
-pub reset-join : (a b : VClock) → join_call Beyond a b ≡ reset_call a b
+pub reset_join : (a b : VClock) → join_call Beyond a b ≡ reset_call a b
 unfolding reset_call zipped rule_of
-reset-join = roomy Beyond (λ x y. reset_by y x) beyond_zip reset_length
+reset_join = roomy Beyond (λ x y. reset_by y x) beyond_zip reset_length
 
 -- ---- one dot
 
@@ -108,25 +108,25 @@ alone d = rw applied_empty (go d.counter)
     go zero = omega arith
     go (suc n) = omega arith
 
-pub apply-join : (c : VClock) (d : Dot) → join_call Larger c (vclock (applied [] d)) ≡ apply_call c d
+pub apply_join : (c : VClock) (d : Dot) → join_call Larger c (vclock (applied [] d)) ≡ apply_call c d
 unfolding apply_call merge_call
-apply-join c d =
+apply_join c d =
     let n = vclock_normalised (applied [] d) (alone d) (applied_normal [] d) in
-    merge-join c (vclock (applied [] d)) ∙ simp (n, dots_vclock (applied [] d) (alone d), applied_merged (dots_of c) d)
+    merge_join c (vclock (applied [] d)) ∙ simp (n, dots_vclock (applied [] d) (alone d), applied_merged (dots_of c) d)
 
 -- the successor of a dot that was found, or the refusal handed on
 module _ (c : VClock) (a : ℕ) where
-  pub inc-refused : ((dot_call c a).no ≡ 0 → ⊥) → dot_call c a ≡ inc_call c a
+  pub inc_refused : ((dot_call c a).no ≡ 0 → ⊥) → dot_call c a ≡ inc_call c a
   unfolding dot_call inc_call dot_answer first_of
-  inc-refused h = go (normalised c) refl
+  inc_refused h = go (normalised c) refl
     where
       go : (t : Bool) → normalised c ≡ t → dot_call c a ≡ inc_call c a
       go true e = absurd (h (simp e))
       go false e = simp e
 
-  pub inc-granted : (dot_call c a).no ≡ 0 → inc_of (dot_call c a).dot ≡ inc_call c a
+  pub inc_granted : (dot_call c a).no ≡ 0 → inc_of (dot_call c a).dot ≡ inc_call c a
   unfolding dot_call inc_call dot_answer first_of inc_of
-  inc-granted h = go (normalised c) refl
+  inc_granted h = go (normalised c) refl
     where
       go : (t : Bool) → normalised c ≡ t → inc_of (dot_call c a).dot ≡ inc_call c a
       go true e = simp e (last (eqb (count (dots_of c) a) 18446744073709551615))
@@ -144,21 +144,21 @@ unfolding clock_answer
 refused_is n = rw (pick_both {A = Clock} (eqb n 0) [])
 
 module _ (r : Rule) (a b : VClock) where
-  pub unfit-join : every normalised (a ∷ b ∷ []) ≡ false → clock_answer 3 [] ≡ join_call r a b
+  pub unfit_join : every normalised (a ∷ b ∷ []) ≡ false → clock_answer 3 [] ≡ join_call r a b
   unfolding join_call clock_answer first_of
-  unfit-join e = simp e
+  unfit_join e = simp e
 
   module _ (e : every normalised (a ∷ b ∷ []) ≡ true) (k : VClock) (is : k ≡ vclock (zipped r (dots_of a) (dots_of b))) where
     long : k.len ≡ length (zipped r (dots_of a) (dots_of b))
     long = ap (λ (v : VClock). v.len) is ∙ len_vclock (zipped r (dots_of a) (dots_of b))
 
-    pub crowded-join : 16 < k.len → clock_answer 6 [] ≡ join_call r a b
+    pub crowded_join : 16 < k.len → clock_answer 6 [] ≡ join_call r a b
     unfolding join_call clock_answer first_of
-    crowded-join h = let l = long in simp (e, lt-ltb 16 (length (zipped r (dots_of a) (dots_of b))) (omega arith))
+    crowded_join h = let l = long in simp (e, lt-ltb 16 (length (zipped r (dots_of a) (dots_of b))) (omega arith))
 
-    pub granted-join : k.len ≤ 16 → ◌≡◌ {A = ClockAnswer} (record { no = 0; clock = k }) (join_call r a b)
+    pub granted_join : k.len ≤ 16 → ◌≡◌ {A = ClockAnswer} (record { no = 0; clock = k }) (join_call r a b)
     unfolding join_call clock_answer first_of
-    granted-join h = let l = long in simp (e, le-ltb 16 (length (zipped r (dots_of a) (dots_of b))) (omega arith)) (ap (λ (v : VClock). record { no = 0; clock = v }) is)
+    granted_join h = let l = long in simp (e, le-ltb 16 (length (zipped r (dots_of a) (dots_of b))) (omega arith)) (ap (λ (v : VClock). record { no = 0; clock = v }) is)
 
 -- the clock of one dot
 pub from_nothing : (d : Dot) → d.counter ≡ 0 → applied [] d ≡ []

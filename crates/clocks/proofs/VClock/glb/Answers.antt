@@ -1,6 +1,6 @@
 use mathlib.Core.Path.{◌∙◌}
-use Rattle.clocks.proofs.Answers.{glb-join}
+use Rattle.clocks.proofs.Answers.{glb_join}
 use Rattle.clocks.proofs.VClock.glb.Goals as goal
 
 pub returns : goal.returns
-returns c = c.joined.ensures ∙ glb-join _ _
+returns c = c.joined.ensures ∙ glb_join _ _

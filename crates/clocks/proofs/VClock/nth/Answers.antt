@@ -4,7 +4,7 @@ use lib.ListN.{length}
 use Rattle.tables.specs.Refusal.{first_of}
 use Rattle.clocks.specs.VClock.{few}
 use Rattle.clocks.specs.Calls.{nth_call, nth_says}
-use Rattle.clocks.proofs.Answers.{dot_there, dot-gone}
+use Rattle.clocks.proofs.Answers.{dot_there, dot_gone}
 use Rattle.clocks.proofs.Steps.{so}
 use borrow.Author.Rules.{rules}
 use Rattle.clocks.proofs.VClock.nth.Goals as goal
@@ -32,4 +32,4 @@ pub returns-else-i-self : goal.returns-else-i-self
 unfolding nth_call nth_says first_of
 returns-else-i-self c =
     let s = c.args.self in
-    simp (so c.is_normalised.ensures c.if-not-is_normalised.false, dot-gone s.dots s.len c.args.i c.if-i-self.false)
+    simp (so c.is_normalised.ensures c.if-not-is_normalised.false, dot_gone s.dots s.len c.args.i c.if-i-self.false)
