@@ -13,7 +13,7 @@ const HEAD: &str = "\
 # A line is a call with its answer, fields parted by one space, each in hex, or - for what is empty:
 #   name first second actor counter - room refusal length output
 # first, second: clocks in the image's form, or two dots (actor, counter: 12 bytes). actor, counter: the dot, or the actor.
-# room: how many bytes the lent output of clock_display has. refusal: the number of docs/RULES.md, 2.
+# room: how many bytes the lent output of clock_display has. refusal: document 01's number.
 # length: of the output; for a comparison 0 Less, 1 Equal, 2 Greater, 3 none; for a yes or no 1 or 0.
 # output: the clock; for clock_get the counter; for an inc the dot; for clock_validate_op start and end; for clock_display the
 # text; for derive_add_ctx the dot, then the clock.";
