@@ -1,75 +1,55 @@
 // Prints words, numbers and images.
-use crate::held::{Held, room};
-use orswot::OpValidation;
+use crate::held::Held;
+use dots::{OpRefused, Refused};
 use std::io;
 
-pub fn words(rt: &impl Print, w: &str) -> io::Result<()> {
-    rt.print(w)
-}
-
-pub fn number(rt: &impl Print, n: u64) -> io::Result<()> {
-    rt.print(n)
-}
-
-pub fn end(rt: &impl Print) -> io::Result<()> {
-    words(rt, "\n")
-}
-
-fn wide(x: u8) -> u64 {
-    x as u64
+// The number that stands for an answer, and the length: 0 where a call refused.
+fn figures(rt: &impl Print, w: &str, answer: Result<usize, Refused>) -> io::Result<()> {
+    match answer {
+        Ok(len) => print!(rt; "{w}0 {len}"),
+        Err(refused) => print!(rt; "{w}{} 0", refused.number()),
+    }
 }
 
 // Two digits a byte, in groups of four bytes.
-pub fn hex(rt: &impl Print, s: &[u8]) -> io::Result<()> {
-    let mut i: usize = 0;
-    while i < s.len() {
-        if i % 4 == 0 {
-            words(rt, " ")?;
+fn hex(rt: &impl Print, s: &[u8]) -> io::Result<()> {
+    for group in s.chunks(4) {
+        rt.print(" ")?;
+        for byte in group {
+            print!(rt; "{byte:02x}")?;
         }
-        print!(rt; "{:02x}", wide(s[i]))?;
-        i += 1;
     }
     Ok(())
 }
 
-// The number and the length.
-pub fn figures(rt: &impl Print, w: &str, h: Held) -> io::Result<()> {
-    words(rt, w)?;
-    number(rt, h.no as u64)?;
-    words(rt, " ")?;
-    number(rt, h.len as u64)
-}
-
 // The number and the length alone.
-pub fn short(rt: &impl Print, w: &str, h: Held) -> io::Result<()> {
-    figures(rt, w, h)?;
-    end(rt)
+pub fn short(rt: &impl Print, w: &str, h: &Held) -> io::Result<()> {
+    figures(rt, w, h.answer)?;
+    rt.print("\n")
 }
 
 // The number, the length and the image.
-pub fn whole(rt: &impl Print, w: &str, h: Held) -> io::Result<()> {
-    figures(rt, w, h)?;
-    let bytes = h.bytes;
-    let n = room(h.len, &bytes);
-    hex(rt, &bytes[..n])?;
-    end(rt)
+pub fn whole(rt: &impl Print, w: &str, h: &Held) -> io::Result<()> {
+    lent(rt, w, h.answer, h.image())
 }
 
-pub fn validation(rt: &impl Print, w: &str, v: OpValidation) -> io::Result<()> {
-    words(rt, w)?;
+// The number, the length and the bytes that were lent to a call.
+pub fn lent(
+    rt: &impl Print,
+    w: &str,
+    answer: Result<usize, Refused>,
+    bytes: &[u8],
+) -> io::Result<()> {
+    figures(rt, w, answer)?;
+    hex(rt, bytes)?;
+    rt.print("\n")
+}
+
+// What `validate_op` says of an operation.
+pub fn validation(rt: &impl Print, w: &str, v: Result<(), OpRefused>) -> io::Result<()> {
     match v {
-        OpValidation::Valid => words(rt, "0"),
-        OpValidation::BadImage => words(rt, "1"),
-        OpValidation::BadClock => words(rt, "3"),
-        OpValidation::LongList => words(rt, "4"),
-        OpValidation::Gap(g) => gap(rt, g.start, g.end),
-    }?;
-    end(rt)
-}
-
-fn gap(rt: &impl Print, start: u64, end: u64) -> io::Result<()> {
-    words(rt, "11, start ")?;
-    number(rt, start)?;
-    words(rt, ", end ")?;
-    number(rt, end)
+        Ok(()) => println!(rt; "{w}0"),
+        Err(OpRefused::Refused(refused)) => println!(rt; "{w}{}", refused.number()),
+        Err(OpRefused::Gap(gap)) => println!(rt; "{w}11, start {}, end {}", gap.start, gap.end),
+    }
 }

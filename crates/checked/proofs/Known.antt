@@ -6,6 +6,7 @@ use mathlib.Core.List.{List, ◌∷◌, map}
 use native.Mathlib.Omega.{arith}
 use lib.ListN.{length, get_or, take, drop, replicate}
 use lib.Seq.{sets, sets-eq, length-sets, take_at, get_or-take}
+use Rattle.std.specs.Prelude.{Some}
 use Rattle.clocks.specs.VClock.{vclock}
 use Rattle.fields.specs.Read.{clock_read}
 use Rattle.layout.specs.Lists.{list_at, starts_at}
@@ -35,10 +36,10 @@ list_places {R} here end s p (suc n) = ap (λ (l : List R). here s p ∷ l) (lis
 take_sets : (l ps : List ℕ) (n : ℕ) → length ps ≡ n → n ≤ length l → take n (sets l 0 ps) ≡ ps
 take_sets l ps n e h = rw (sets-eq ps l 0 (omega arith)) (take_at ps (drop (0 + length ps) l) n e)
 
-pub known : (s : List ℕ) (x : Image) → x ≡ check_image s → x.good ≡ true → Known s x
+pub known : (s : List ℕ) (x : Image) → Some x ≡ check_image s → Known s x
 unfolding image_of_bytes image_in
-known s x c g =
-    let t = image_good s x c true g in
+known s x c =
+    let t = image_good s x c in
     let e : x ≡ image_of_bytes s = t.1 in
     let h = passed s t.0 in
     let n = entries_count s in

@@ -2,7 +2,7 @@
 use Prim.Native.Nat.{ℕ, zero, suc}
 use Rattle.std.specs.Prelude.{◌≡◌, refl, false, T, eqb, ltb, length}
 use Rattle.std.proofs.Math.Path.{ap, ap₂}
-use Rattle.std.proofs.Common.{◌∙◌, arith, le-ltb}
+use Rattle.std.proofs.Common.{sym, ◌∙◌, arith, le-ltb}
 use mathlib.Core.List.{List, [], ◌∷◌, ◌++◌}
 use Rattle.std.proofs.Math.Dec.{eqb-suc-zero}
 use Rattle.tables.specs.Table.{pick}
@@ -20,7 +20,10 @@ use Rattle.layout.specs.Fits.{Fits}
 use Rattle.layout.proofs.Parts.{sound_narrow}
 use Rattle.layout.proofs.Round.{bytes_encode}
 use Rattle.layout.proofs.MainFacts.{at_most, good_encode, image_encode, good_formed, good_fits}
-use Rattle.results.specs.declared.Written.{Written}
+use Rattle.std.specs.Prelude.{Result}
+use Rattle.dots.specs.declared.refusals.Refused.{Refused}
+use Rattle.dots.specs.Answers.{number_in, answer}
+use Rattle.dots.proofs.AnswersFacts.{answer_ok, answer_done}
 use Rattle.results.specs.Call.{Call, finish_of, number_of, answered, answer_of, Meets}
 use Rattle.results.proofs.Laws.{done_exactly, refused_keeps, granted_writes}
 use Rattle.claims.proofs.FittingFacts.{step_fits}
@@ -54,7 +57,7 @@ module _ {c : Call} {a : List ℕ} {e : Event} (does : Does c a e) (bytes : Byte
       let p = does.passes n in
       (step_well_formed full e (image_of a) p.event_fits (good_formed a p.image_good) b, step_fits e (image_of a) p.numbers_fit (good_fits a bytes p.image_good))
 
-  module _ {before after : List ℕ} {r : Written} (kept : Meets full c before r after) where
+  module _ {before after : List ℕ} {r : Result ℕ Refused} (kept : Meets full c before r after) where
     unrefused : Granted r → NoneApplies c.refusals × (broken full M ≡ 0)
     unrefused g =
         let d = (done_exactly full c before r after kept does.orderly).0 g in
@@ -91,13 +94,14 @@ module _ {c : Call} {a : List ℕ} {e : Event} (does : Does c a e) (bytes : Byte
       unfolding number_of
       number = skip c.refusals (finish_of full c.result (length before)) passed ∙ ap (λ (A : Replica). first_of (finish_of full A (length before))) does.result_is ∙ finish full M (length before) room
 
-      pub in_hand : (r ≡ answered (broken full M) (length (encode M))) × (image r after ≡ pick (eqb (broken full M) 0) (encode M) [])
+      answer_known : r ≡ answer (broken full M) (length (encode M))
       unfolding answer_of answered
-      in_hand = (
-        kept.answer ∙ ap₂ (λ (n : ℕ) (A : Replica). answered n (length (encode A))) number does.result_is,
-        go (broken full M) (ap (λ (w : Written). w.no) kept.answer ∙ number),
-      )
+      answer_known = kept.answer ∙ ap₂ (λ (n : ℕ) (A : Replica). answer n (length (encode A))) number does.result_is
+
+      pub in_hand : (r ≡ answered (broken full M) (length (encode M))) × (image r after ≡ pick (eqb (broken full M) 0) (encode M) [])
+      unfolding answered
+      in_hand = (answer_known, go (broken full M) refl)
         where
-          go : (n : ℕ) → r.no ≡ n → image r after ≡ pick (eqb n 0) (encode M) []
-          go zero g = written g
-          go (suc n) g = rw (eqb-suc-zero n, (refused_keeps full c before r after kept (λ z. omega arith)).1)
+          go : (n : ℕ) → broken full M ≡ n → image r after ≡ pick (eqb n 0) (encode M) []
+          go zero e = written (ap number_in answer_known ∙ ap (λ (n : ℕ). number_in (answer n (length (encode M)))) e ∙ ap number_in (answer_ok (length (encode M))))
+          go (suc n) e = rw (eqb-suc-zero n, (refused_keeps full c before r after kept (λ z. let k = answer_done (broken full M) (length (encode M)) (sym (ap number_in answer_known) ∙ z) in omega arith)).1)

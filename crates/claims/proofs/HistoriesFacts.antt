@@ -22,7 +22,9 @@ use Rattle.replica.proofs.StaysDownFacts.{stays_down_all, back_by_new}
 use Rattle.layout.specs.Fields.{Bytes}
 use Rattle.layout.specs.Image.{image_of}
 use Rattle.layout.proofs.MainFacts.{good_formed}
-use Rattle.results.specs.declared.Written.{Written}
+use Rattle.std.specs.Prelude.{Result}
+use Rattle.dots.specs.declared.refusals.Refused.{Refused}
+use Rattle.dots.specs.Answers.{number_in}
 use Rattle.operations.specs.declared.Op.TheVariants.{Remove}
 use Rattle.claims.specs.Granted.{WellFormed, Granted, image, Fit}
 use Rattle.claims.proofs.GrantedFacts.{granted_fit, granted_well_formed, granted_says}
@@ -31,8 +33,8 @@ use Rattle.claims.proofs.RequestsFacts.{does}
 use Rattle.claims.specs.Histories.{Answers, History, Unforgotten, Ran, ends, goes}
 
 -- a granted call goes on from what it wrote
-pub granted_goes : (q : Request) {a before after z : List ℕ} {later : List Request} {r : Written} → Lent q → Answers q a before r after → Granted r → History (image r after) later z → History a (q ∷ later) z
-granted_goes q {a} {after = after} {z = z} {later = later} {r = r} l kept g h = goes l kept (subst (λ (b : Bool). History (pick b (image r after) a) later z) (sym (eq-eqb r.no 0 g)) h)
+pub granted_goes : (q : Request) {a before after z : List ℕ} {later : List Request} {r : Result ℕ Refused} → Lent q → Answers q a before r after → Granted r → History (image r after) later z → History a (q ∷ later) z
+granted_goes q {a} {after = after} {z = z} {later = later} {r = r} l kept g h = goes l kept (subst (λ (b : Bool). History (pick b (image r after) a) later z) (sym (eq-eqb (number_in r) 0 g)) h)
 
 neither : (a b : Bool) → (a || b) ≡ false → (a ≡ false) × (b ≡ false)
 neither true b e = absurd (false≢true (sym e))
@@ -41,11 +43,11 @@ neither false b e = (refl, e)
 pub ran : {a z : List ℕ} {later : List Request} → WellFormed a → History a later z → Ran a later z
 unfolding run
 ran w ends = record { granted = []; all_fair = tt; end_formed = w; end_says = refl; no_more = λ x n e. refl }
-ran {a} {z} w (goes {before = before} {after = after} {q = q} {later = later} {r = r} l kept h) = go (eqb r.no 0) refl (λ v. ran v h)
+ran {a} {z} w (goes {before = before} {after = after} {q = q} {later = later} {r = r} l kept h) = go (eqb (number_in r) 0) refl (λ v. ran v h)
   where
-    go : (b : Bool) → eqb r.no 0 ≡ b → (WellFormed (pick b (image r after) a) → Ran (pick b (image r after) a) later z) → Ran a (q ∷ later) z
+    go : (b : Bool) → eqb (number_in r) 0 ≡ b → (WellFormed (pick b (image r after) a) → Ran (pick b (image r after) a) later z) → Ran a (q ∷ later) z
     go true e rest =
-        let g = eqb-true r.no 0 e in
+        let g = eqb-true (number_in r) 0 e in
         let t = rest (granted_well_formed (does q a l) w.bytes kept g) in
         record {
           granted = event_of q ∷ t.granted;
@@ -68,7 +70,7 @@ ran {a} {z} w (goes {before = before} {after = after} {q = q} {later = later} {r
 
 -- ---- what is taken down
 
-module _ (a : List ℕ) (c : VClock) (ms : List ℕ) {before after z : List ℕ} {later : List Request} {r : Written} (bytes : Bytes a) (lent : Lent (apply_op Remove c ms))
+module _ (a : List ℕ) (c : VClock) (ms : List ℕ) {before after z : List ℕ} {later : List Request} {r : Result ℕ Refused} (bytes : Bytes a) (lent : Lent (apply_op Remove c ms))
     (removes : Answers (apply_op Remove c ms) a before r after) (done : Granted r) (history : History (image r after) later z) where
   fit : Fit a (event_of (apply_op Remove c ms))
   fit = granted_fit (does (apply_op Remove c ms) a lent) bytes removes done

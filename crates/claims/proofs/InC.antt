@@ -11,19 +11,34 @@ use Rattle.layout.specs.Fits.{FitMembers, FitsClock}
 use Rattle.layout.proofs.Parts.{clock_laws}
 use Rattle.layout.specs.Image.{encode}
 use Rattle.layout.proofs.MainFacts.{good_length, empty_length}
-use Rattle.results.specs.declared.Written.{Written}
-use Rattle.results.specs.Call.{Call, number_of, answered, answer_of, output_of, Meets}
+use Rattle.std.specs.Prelude.{Result, Ok, Err}
+use Rattle.dots.specs.declared.refusals.Refused.{Refused}
+use Rattle.dots.specs.Answers.{answer, refusal, number_in}
+use Rattle.dots.proofs.AnswersFacts.{number_in_answer, answer_ok}
+use Rattle.results.specs.Call.{length_in, Call, number_of, answered, answer_of, output_of, Meets}
 use Rattle.reading.specs.Calls.{empty_call}
 use Rattle.replies.specs.Reply.{reply, Replies, halves}
 use Rattle.replies.specs.Lent.{good_lent, unfit_clock, clock_lent, lent_dots}
 use Rattle.exports.specs.Calls.{replica_reply}
+use Rattle.exports.proofs.Replied.{ten}
+use Rattle.results.specs.Laws.{Orderly}
+use Rattle.std.proofs.Math.Path.{ap₂}
 use Rattle.claims.specs.Granted.{image}
 use Rattle.claims.proofs.GrantedFacts.{granted_well_formed, written}
 use Rattle.claims.specs.Requests.{Request, call_on, Lent}
-use Rattle.claims.proofs.RequestsFacts.{does}
+use Rattle.claims.proofs.RequestsFacts.{in_order, does}
 use Rattle.claims.specs.Histories.{Answers, History, ends as ended, goes as went}
 use Rattle.claims.specs.Calls.{EmptyReplies}
-use Rattle.claims.specs.InC.{apart, Replied, adding, removing, resetting, RepliedHistory, ends, goes}
+use Rattle.claims.specs.InC.{Halves, apart, answer_in, Replied, adding, removing, resetting, RepliedHistory, ends, goes}
+
+-- the length that an answer carries
+kept_length : (k long : ℕ) → length_in (answer k (pick (eqb k 0) long 0)) ≡ pick (eqb k 0) long 0
+unfolding answer
+kept_length k long = go (eqb k 0)
+  where
+    go : (b : Bool) → length_in (pick b (Ok (pick b long 0)) (Err (refusal k))) ≡ pick b long 0
+    go true = refl
+    go false = refl
 
 -- ---- a reply is the call's answer, as long as a granted result is shorter than 4 GiB
 
@@ -42,16 +57,37 @@ module _ (c : Call) (before after : List ℕ) (r : ℕ) (short : number_of full 
   picked true bytes = refl
   picked false bytes = refl
 
-  reply_meets : Meets full c before (apart r) after
+  -- the length is that of a result, or 0
+  same_answer : answer n (pick (eqb n 0) (length (encode c.result)) 0) ≡ answer n (length (encode c.result))
+  unfolding answer
+  same_answer = go (eqb n 0)
+    where
+      go : (b : Bool) → ◌≡◌ {A = Result ℕ Refused} (pick b (Ok (pick b (length (encode c.result)) 0)) (Err (refusal n))) (pick b (Ok (length (encode c.result))) (Err (refusal n)))
+      go true = refl
+      go false = refl
+
+  reply_meets : Meets full c before (answer_in r) after
   unfolding replica_reply reply answer_of answered output_of
   reply_meets =
       let h = halves (replica_reply c (length before)) low_fits in
       record {
-        answer = λ i. record { no = (ap (λ (k : ℕ). k / 4294967296) kept.answer ∙ h.0) i; len = (ap (λ (k : ℕ). k % 4294967296) kept.answer ∙ h.1) i };
+        answer = ap₂ answer (ap (λ (k : ℕ). k / 4294967296) kept.answer ∙ h.0) (ap (λ (k : ℕ). k % 4294967296) kept.answer ∙ h.1) ∙ same_answer;
         output = kept.output ∙ picked (eqb n 0) (encode c.result);
       }
 
-pub empty_meets : {before after : List ℕ} {r : ℕ} → EmptyReplies before r after → Meets full empty_call before (apart r) after
+  -- nothing of the halves is lost in the answer: they are its number and its length
+  reply_halves : Orderly c → apart r ≡ record { number = number_in (answer_in r); length = length_in (answer_in r) }
+  unfolding replica_reply reply
+  reply_halves orderly =
+      let h = halves (replica_reply c (length before)) low_fits in
+      let x : r / 4294967296 ≡ n = ap (λ (k : ℕ). k / 4294967296) kept.answer ∙ h.0 in
+      let y : r % 4294967296 ≡ pick (eqb n 0) (length (encode c.result)) 0 = ap (λ (k : ℕ). k % 4294967296) kept.answer ∙ h.1 in
+      let t = ten c before after (answer_in r) orderly reply_meets in
+      let p : number_in (answer_in r) ≡ r / 4294967296 = number_in_answer (r / 4294967296) (r % 4294967296) (rw x t) in
+      let q : length_in (answer_in r) ≡ r % 4294967296 = ap₂ (λ (k l : ℕ). length_in (answer k l)) x y ∙ kept_length n (length (encode c.result)) ∙ sym y in
+      λ i. record { number = sym p i; length = sym q i }
+
+pub empty_meets : {before after : List ℕ} {r : ℕ} → EmptyReplies before r after → Meets full empty_call before (answer_in r) after
 empty_meets {before} {after} {r} kept = reply_meets empty_call before after r (λ z. let e = empty_length in omega arith) kept
 
 -- a granted result of bytes is an image, and so has at most 18,268 of them
@@ -59,18 +95,24 @@ result_short : (q : Request) (a before : List ℕ) → Bytes a → Lent q → nu
 unfolding answer_of answered
 result_short q a before bytes lent z =
     let m : Answers q a before (answer_of full (call_on q a) (length before)) (output_of full (call_on q a) before) = record { answer = refl; output = refl } in
-    let w = granted_well_formed (does q a lent) bytes m z in
-    let e = written (does q a lent) bytes m z ∙ ap encode (sym (does q a lent).result_is) in
+    let g : number_in (answer_of full (call_on q a) (length before)) ≡ 0 =
+    ap (λ (n : ℕ). number_in (answer n (length (encode (call_on q a).result)))) z ∙ ap number_in (answer_ok (length (encode (call_on q a).result))) in
+    let w = granted_well_formed (does q a lent) bytes m g in
+    let e = written (does q a lent) bytes m g ∙ ap encode (sym (does q a lent).result_is) in
     rw e at (good_length (image (answer_of full (call_on q a) (length before)) (output_of full (call_on q a) before)) w.bytes w.good)
 
-pub in_c : (q : Request) (a : List ℕ) {before after : List ℕ} {r : ℕ} → Bytes a → Lent q → Replied q a before r after → Answers q a before (apart r) after
+pub in_c : (q : Request) (a : List ℕ) {before after : List ℕ} {r : ℕ} → Bytes a → Lent q → Replied q a before r after → Answers q a before (answer_in r) after
 in_c q a {before} {after} {r} bytes lent kept = reply_meets (call_on q a) before after r (λ z. let h = result_short q a before bytes lent z in omega arith) kept
+
+-- and its halves are the number and the length of that answer
+pub halves_in_c : (q : Request) (a : List ℕ) {before after : List ℕ} {r : ℕ} → Bytes a → Lent q → Replied q a before r after → apart r ≡ record { number = number_in (answer_in r); length = length_in (answer_in r) }
+halves_in_c q a {before} {after} {r} bytes lent kept = reply_halves (call_on q a) before after r (λ z. let h = result_short q a before bytes lent z in omega arith) kept (in_order q a)
 
 -- the two halves are the whole answer
 pub one_number : {q r : ℕ} → apart q ≡ apart r → q ≡ r
 one_number {q} {r} e =
-    let n : q / 4294967296 ≡ r / 4294967296 = ap (λ (w : Written). w.no) e in
-    let l : q % 4294967296 ≡ r % 4294967296 = ap (λ (w : Written). w.len) e in
+    let n : q / 4294967296 ≡ r / 4294967296 = ap (λ (w : Halves). w.number) e in
+    let l : q % 4294967296 ≡ r % 4294967296 = ap (λ (w : Halves). w.length) e in
     omega arith
 
 -- ---- the requests behind the functions
@@ -104,8 +146,8 @@ pub history_in_c : {a z : List ℕ} {later : List Request} → Bytes a → Repli
 history_in_c bytes ends = ended
 history_in_c {a} {z} bytes (goes {after = after} {q = q} {later = later} {r = r} lent kept h) =
     let m = in_c q a bytes lent kept in
-    went lent m (history_in_c (go (eqb (apart r).no 0) refl) h)
+    went lent m (history_in_c (go (eqb (number_in (answer_in r)) 0) refl) h)
   where
-    go : (b : Bool) → eqb (apart r).no 0 ≡ b → Bytes (pick b (image (apart r) after) a)
-    go true e = (granted_well_formed (does q a lent) bytes (in_c q a bytes lent kept) (eqb-true (apart r).no 0 e)).bytes
+    go : (b : Bool) → eqb (number_in (answer_in r)) 0 ≡ b → Bytes (pick b (image (answer_in r) after) a)
+    go true e = (granted_well_formed (does q a lent) bytes (in_c q a bytes lent kept) (eqb-true (number_in (answer_in r)) 0 e)).bytes
     go false e = bytes

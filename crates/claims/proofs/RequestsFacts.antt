@@ -17,9 +17,12 @@ use Rattle.replica.proofs.LimitsFacts.{well_formed_from}
 use Rattle.replica.specs.History.{apply, step}
 use Rattle.replica.specs.HistoryLaws.{fair}
 use Rattle.replica.specs.LimitLaws.{fits}
-use Rattle.layout.specs.Image.{good_image, image_of}
+use Rattle.layout.specs.Image.{encode, good_image, image_of}
 use Rattle.layout.proofs.MainFacts.{good_formed, good_fits}
-use Rattle.results.specs.declared.Written.{Written}
+use Rattle.std.specs.Prelude.{Result}
+use Rattle.dots.specs.declared.refusals.Refused.{Refused}
+use Rattle.dots.specs.Answers.{number_in}
+use Rattle.dots.proofs.AnswersFacts.{answer_done}
 use Rattle.results.specs.Call.{table_of, number_of, answered, answer_of, Meets}
 use Rattle.results.specs.Laws.{Orderly}
 use Rattle.merging.specs.Merge.{merge_call}
@@ -50,15 +53,18 @@ all_numbered (merge_into b) a room = (omega arith, (omega arith, (omega arith, (
 all_numbered (reset_by c) a room = (omega arith, (omega arith, (omega arith, (omega arith, (omega arith, (omega arith, (omega arith, tt)))))))
 
 -- so 0 is answered only where none applies
-pub not_done : (q : Request) (a : List ℕ) {before after : List ℕ} {r : Written} → Meets full (call_on q a) before r after → All (λ p. p.applies ≡ true → 0 < r.no) (table_of full (call_on q a) (length before))
+pub not_done : (q : Request) (a : List ℕ) {before after : List ℕ} {r : Result ℕ Refused} → Meets full (call_on q a) before r after → All (λ p. p.applies ≡ true → 0 < number_in r) (table_of full (call_on q a) (length before))
 unfolding answer_of answered number_of
-not_done q a {before} {r = r} kept = go r.no (ap (λ (w : Written). w.no) kept.answer)
+not_done q a {before} {r = r} kept = go (number_in r) refl
   where
     table : List Refusal
     table = table_of full (call_on q a) (length before)
 
-    go : (n : ℕ) → n ≡ first_of table → All (λ p. p.applies ≡ true → 0 < n) table
-    go zero e = all_map (λ p. p.applies ≡ false) (λ p. p.applies ≡ true → 0 < 0) table (λ p u t. absurd (false≢true (sym u ∙ t))) ((done_right table (all_numbered q a (length before))).0 (sym e))
+    unrefused : number_in r ≡ 0 → first_of table ≡ 0
+    unrefused e = answer_done (first_of table) (length (encode (call_on q a).result)) (sym (ap number_in kept.answer) ∙ e)
+
+    go : (n : ℕ) → number_in r ≡ n → All (λ p. p.applies ≡ true → 0 < n) table
+    go zero e = all_map (λ p. p.applies ≡ false) (λ p. p.applies ≡ true → 0 < 0) table (λ p u t. absurd (false≢true (sym u ∙ t))) ((done_right table (all_numbered q a (length before))).0 (unrefused e))
     go (suc n) e = all_any (λ p. p.applies ≡ true → 0 < suc n) table (λ p t. omega arith)
 
 -- ---- each call does what its rule says

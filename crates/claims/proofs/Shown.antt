@@ -31,7 +31,8 @@ use Rattle.layout.specs.Fits.{FitsClock, FitsRow}
 use Rattle.layout.specs.Formed.{EntryFine}
 use Rattle.layout.proofs.FormedFacts.{formed_from}
 use Rattle.layout.proofs.MainFacts.{good_formed, good_fits}
-use Rattle.results.specs.declared.Written.{Written}
+use Rattle.std.specs.Prelude.{Result}
+use Rattle.dots.specs.declared.refusals.Refused.{Refused}
 use Rattle.operations.specs.declared.Op.TheVariants.{Remove}
 use Rattle.operations.specs.Calls.{unfit_arguments, apply_call}
 use Rattle.claims.specs.Granted.{WellFormed, Granted, Roomy, image}
@@ -78,7 +79,7 @@ module _ (a : List ℕ) (m : ℕ) (w : WellFormed a) where
   no_limit : broken full (remove (dots_of (shown a m)) (m ∷ []) A) ≡ 0
   no_limit = rw dots_are (covered_remove full A (within_limits w) (entry A m) (m ∷ []) (true_from (covers A.clock (entry A m)) (le_covers A.clock (entry A m) (fine.each m) (fine.within m))))
 
-  pub shown_taken_out : {x y : List ℕ} {r : Written} → m < 2 ^ 32 → Roomy x → Answers (apply_op Remove (shown a m) (m ∷ [])) a x r y → Granted r × (is_in (image_of (image r y)) m ≡ false)
+  pub shown_taken_out : {x y : List ℕ} {r : Result ℕ Refused} → m < 2 ^ 32 → Roomy x → Answers (apply_op Remove (shown a m) (m ∷ [])) a x r y → Granted r × (is_in (image_of (image r y)) m ≡ false)
   unfolding step apply contains
   shown_taken_out small room kept =
       let d = does (apply_op Remove (shown a m) (m ∷ [])) a (lent small) in
@@ -86,7 +87,7 @@ module _ (a : List ℕ) (m : ℕ) (w : WellFormed a) where
       (g, ap (λ (B : Replica). is_in B m) (granted_says d w.bytes kept g ∙ ap (λ (c : Clock). remove c (m ∷ []) A) dots_are) ∙ taken_out A (well_formed_sound w) m)
 
 -- whatever is shown of a member that was taken down by c is newer than c, actor by actor
-module _ (a : List ℕ) (c : VClock) (ms : List ℕ) {before after z : List ℕ} {later : List Request} {r : Written} (bytes : Bytes a) (lent : Lent (apply_op Remove c ms))
+module _ (a : List ℕ) (c : VClock) (ms : List ℕ) {before after z : List ℕ} {later : List Request} {r : Result ℕ Refused} (bytes : Bytes a) (lent : Lent (apply_op Remove c ms))
     (taken_down : Answers (apply_op Remove c ms) a before r after) (done : Granted r) (history : History (image r after) later z) where
   pub newer : (m x : ℕ) → T (listed ms m) → ((n : ℕ) → 0 < n → n ≤ count (dots_of c) x → Unforgotten later x n)
       → (count (entry (image_of z) m) x ≡ 0) ⊎ (count (dots_of c) x < count (entry (image_of z) m) x)

@@ -9,8 +9,10 @@ use Rattle.replica.specs.HistoryLaws.{fair}
 use Rattle.replica.specs.LimitLaws.{fits}
 use Rattle.layout.specs.Fields.{Bytes}
 use Rattle.layout.specs.Image.{image_of, good_image}
-use Rattle.results.specs.declared.Written.{Written}
-use Rattle.results.specs.Call.{Call}
+use Rattle.std.specs.Prelude.{Result}
+use Rattle.dots.specs.declared.refusals.Refused.{Refused}
+use Rattle.dots.specs.Answers.{number_in}
+use Rattle.results.specs.Call.{length_in, Call}
 use Rattle.results.specs.Laws.{Orderly}
 use Rattle.claims.specs.Fitting.{FitsEvent}
 
@@ -20,16 +22,16 @@ pub record WellFormed (a : List ℕ) : Type 0 where
   pub good : T (good_image a)
 
 -- a call that answers 0
-abbrev pub Granted : Written → Type 0
-Granted r = r.no ≡ 0
+abbrev pub Granted : Result ℕ Refused → Type 0
+Granted r = number_in r ≡ 0
 
 -- an output with room for any image
 abbrev pub Roomy : List ℕ → Type 0
 Roomy out = 18268 ≤ length out
 
 -- what it wrote: the output's bytes from 0 to the length that it returned
-abbrev pub image : Written → List ℕ → List ℕ
-image r after = take r.len after
+abbrev pub image : Result ℕ Refused → List ℕ → List ℕ
+image r after = take (length_in r) after
 
 -- the image is good, and the event's arguments are well-formed and their numbers fit
 pub record Fit (a : List ℕ) (e : Event) : Type 0 where

@@ -3,7 +3,8 @@ use Rattle.std.specs.Prelude.{ℕ, ◌≡◌, ◌↔◌, List, [], ◌∷◌, �
 use Rattle.tables.specs.Table.{All}
 use Rattle.offices.specs.Network.{merge_all}
 use Rattle.layout.specs.Image.{image_of}
-use Rattle.results.specs.declared.Written.{Written}
+use Rattle.std.specs.Prelude.{Result}
+use Rattle.dots.specs.declared.refusals.Refused.{Refused}
 use Rattle.claims.specs.Granted.{WellFormed, Granted, image}
 use Rattle.claims.specs.Merges.{Merges}
 
@@ -20,7 +21,7 @@ SameOnes xs ys = (x : List ℕ) → In x xs ↔ In x ys
 -- and ys. So an office may merge what others have merged, in any order and any pairing.
 pub data Gathers : List ℕ → List (List ℕ) → List ℕ → Type 0 where
   came : {a : List ℕ} → WellFormed a → Gathers a [] a
-  merged : {a b p q before after : List ℕ} {xs ys : List (List ℕ)} {r : Written} → Gathers a xs p → Gathers b ys q → Merges p q before r after → Granted r → Gathers a (xs ++ (b ∷ ys)) (image r after)
+  merged : {a b p q before after : List ℕ} {xs ys : List (List ℕ)} {r : Result ℕ Refused} → Gathers a xs p → Gathers b ys q → Merges p q before r after → Granted r → Gathers a (xs ++ (b ∷ ys)) (image r after)
 
 -- what is gathered is the merge of all of them, one after the other
 pub record Gathered (a : List ℕ) (bs : List (List ℕ)) (z : List ℕ) : Type 0 where

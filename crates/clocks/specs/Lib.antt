@@ -1,3 +1,4 @@
 pub mod VClock
 pub mod Calls
 pub mod Laws
+pub mod Text

@@ -2,61 +2,24 @@
 // included, and refuses with 3 where one isn't normalised.
 #![tactic(auto)]
 
+mod text;
+
 ghost use Rattle.std.specs.Prelude.{◌≡◌, true, [], ◌∷◌};
 ghost use Rattle.tables.specs.Table.{every};
-ghost use Rattle.dots.specs.Calls.{means, standing};
+ghost use Rattle.dots.specs.Calls.{named, standing};
 ghost use Rattle.dots.specs.Clock.{applied, count, covers};
 ghost use Rattle.clocks.specs.VClock.{dots_of, vclock, normalised};
-ghost use Rattle.clocks.specs.Calls.{zipped, clock_answer, get_call, dot_call, empty_call, inc_call, join_call, apply_call, merge_call, reset_call, intersection_call, glb_call, comparison_says, compare_call, concurrent_call, validation_says, validate_op_call, validate_merge_call, nth_says, nth_call};
+ghost use Rattle.clocks.specs.Calls.{zipped, judged, get_call, dot_call, empty_call, inc_call, join_call, apply_call, merge_call, reset_call, intersection_call, glb_call, compare_call, concurrent_call, validate_op_call, validate_merge_call, nth_call};
 
-use dots::{Actor, Comparison, Dot, DotAnswer, DotRange};
+use dots::{Actor, Dot, DotRange, OpRefused, Refused};
 use places::Rule;
+use std::cmp::Ordering;
 
+// Fixed memory: 16 places, and how many of them are in use.
 #[derive(Clone, Copy)]
 pub struct VClock {
     pub dots: [Dot; 16],
     pub len: usize,
-}
-
-// A refusal number, and where it is 0 a counter, a clock, a truth, an order.
-#[derive(Clone, Copy)]
-pub struct CounterAnswer {
-    pub no: u32,
-    pub counter: u64,
-}
-
-#[derive(Clone, Copy)]
-pub struct ClockAnswer {
-    pub no: u32,
-    pub clock: VClock,
-}
-
-#[derive(Clone, Copy)]
-pub struct TruthAnswer {
-    pub no: u32,
-    pub holds: bool,
-}
-
-#[derive(Clone, Copy)]
-pub struct ComparisonAnswer {
-    pub no: u32,
-    pub order: Comparison,
-}
-
-// What `validate_op` says of a dot: it may be applied; the clock is refused with 3; dots before it are missing (11).
-#[derive(Clone, Copy)]
-pub enum OpValidation {
-    Valid,
-    Refused,
-    Gap(DotRange),
-}
-
-// The dot at a place of a clock: one, none there, or the clock is refused with 3.
-#[derive(Clone, Copy)]
-pub enum Nth {
-    At(Dot),
-    Past,
-    Refused,
 }
 
 impl VClock {
@@ -73,19 +36,6 @@ impl VClock {
         }
     }
 
-    // The clock of one dot; the empty clock where its counter is 0.
-    pub fn from_dot(d: Dot) -> VClock
-        ensures { result ≡ vclock (applied [] d) }
-    {
-        let mut c = VClock::new();
-        if d.counter == 0 {
-            return c;
-        }
-        c.dots[0] = d;
-        c.len = 1;
-        c
-    }
-
     // Whether the clock is normalised.
     pub fn is_normalised(self) -> bool
         ensures { result ≡ normalised self }
@@ -95,210 +45,135 @@ impl VClock {
     }
 
     // The counter of an actor, 0 where it is missing. Refuses 3.
-    pub fn get(self, actor: Actor) -> CounterAnswer
+    pub fn get(self, actor: Actor) -> Result<u64, Refused>
         ensures { result ≡ get_call self actor.0 }
     {
-        if self.is_normalised() {
-            CounterAnswer {
-                no: 0,
-                counter: self.counter(actor.0),
-            }
-        } else {
-            CounterAnswer { no: 3, counter: 0 }
-        }
+        Ok(self.judged()?.counter(actor.0))
     }
 
     // The dot of an actor, with counter 0 where it is missing. Refuses 3.
-    pub fn dot(self, actor: Actor) -> DotAnswer
+    pub fn dot(self, actor: Actor) -> Result<Dot, Refused>
         ensures { result ≡ dot_call self actor.0 }
     {
-        if self.is_normalised() {
-            DotAnswer {
-                no: 0,
-                dot: Dot::new(actor, self.counter(actor.0)),
-            }
-        } else {
-            DotAnswer {
-                no: 3,
-                dot: Dot::new(Actor(0), 0),
-            }
-        }
+        Ok(Dot::new(actor, self.get(actor)?))
     }
 
     // Whether the clock has no dots. Refuses 3.
-    pub fn is_empty(self) -> TruthAnswer
+    pub fn is_empty(self) -> Result<bool, Refused>
         ensures { result ≡ empty_call self }
     {
-        if self.is_normalised() {
-            TruthAnswer {
-                no: 0,
-                holds: self.len == 0,
-            }
-        } else {
-            TruthAnswer {
-                no: 3,
-                holds: false,
-            }
-        }
+        Ok(self.judged()?.len == 0)
     }
 
     // The next dot of an actor. Refuses 3; then 5.
-    pub fn inc(self, actor: Actor) -> DotAnswer
+    pub fn inc(self, actor: Actor) -> Result<Dot, Refused>
         ensures { result ≡ inc_call self actor.0 }
     {
-        let last = self.dot(actor);
-        if last.no != 0 {
-            return last;
-        }
-        let d = last.dot;
-        d.inc()
+        self.dot(actor)?.inc()
     }
 
     // The clock with the actor's counter raised to the dot's, if that is larger. Refuses 3; then 6.
-    pub fn apply(self, d: Dot) -> ClockAnswer
+    pub fn apply(self, d: Dot) -> Result<VClock, Refused>
         ensures { result ≡ apply_call self d }
     {
-        VClock::joined(Rule::Larger, self, VClock::from_dot(d))
+        VClock::joined(Rule::Larger, self, VClock::from(d))
     }
 
     // The larger counter per actor. Refuses 3; then 6.
-    pub fn merge(self, other: VClock) -> ClockAnswer
+    pub fn merge(self, other: VClock) -> Result<VClock, Refused>
         ensures { result ≡ merge_call self other }
     {
         VClock::joined(Rule::Larger, self, other)
     }
 
     // The clock without the actors whose counter c covers. Refuses 3.
-    pub fn reset_remove(self, c: VClock) -> ClockAnswer
+    pub fn reset_remove(self, c: VClock) -> Result<VClock, Refused>
         ensures { result ≡ reset_call self c }
     {
         VClock::joined(Rule::Beyond, self, c)
     }
 
     // A new clock without the actors whose counter c covers. Refuses 3.
-    pub fn clone_without(self, c: VClock) -> ClockAnswer
+    pub fn clone_without(self, c: VClock) -> Result<VClock, Refused>
         ensures { result ≡ reset_call self c }
     {
         self.reset_remove(c)
     }
 
     // The dots that are equal in both. Refuses 3.
-    pub fn intersection(self, other: VClock) -> ClockAnswer
+    pub fn intersection(self, other: VClock) -> Result<VClock, Refused>
         ensures { result ≡ intersection_call self other }
     {
         VClock::joined(Rule::Same, self, other)
     }
 
     // The smaller counter per actor, zeros dropped. Refuses 3.
-    pub fn glb(self, other: VClock) -> ClockAnswer
+    pub fn glb(self, other: VClock) -> Result<VClock, Refused>
         ensures { result ≡ glb_call self other }
     {
         VClock::joined(Rule::Smaller, self, other)
     }
 
-    // How the clock stands to another (partial_cmp). Refuses 3, with `None`.
-    pub fn compare(self, other: VClock) -> ComparisonAnswer
-        ensures { comparison_says result ≡ compare_call self other }
+    // How the clock stands to another (partial_cmp). Refuses 3, so it can't be a `PartialOrd`.
+    pub fn compare(self, other: VClock) -> Result<Option<Ordering>, Refused>
+        ensures { result ≡ compare_call self other }
     {
-        if VClock::both_normalised(self, other) {
-            let order = by_covering(self.covers(other), other.covers(self));
-            ComparisonAnswer { no: 0, order }
-        } else {
-            ComparisonAnswer {
-                no: 3,
-                order: Comparison::None,
-            }
-        }
+        self.validate_merge(other)?;
+        Ok(by_covering(self.covers(other), other.covers(self)))
     }
 
-    // Whether neither clock covers the other. Refuses 3, with `false`.
-    pub fn concurrent(self, other: VClock) -> TruthAnswer
+    // Whether neither clock covers the other. Refuses 3.
+    pub fn concurrent(self, other: VClock) -> Result<bool, Refused>
         ensures { result ≡ concurrent_call self other }
     {
-        if !VClock::both_normalised(self, other) {
-            return TruthAnswer {
-                no: 3,
-                holds: false,
-            };
-        }
-        if self.covers(other) {
-            TruthAnswer {
-                no: 0,
-                holds: false,
-            }
-        } else {
-            TruthAnswer {
-                no: 0,
-                holds: !other.covers(self),
-            }
-        }
+        Ok(self.compare(other)?.is_none())
     }
 
     // Whether a dot is the actor's next at most; the gap before it otherwise (11). Refuses 3.
-    pub fn validate_op(self, d: Dot) -> OpValidation
-        ensures { validation_says result ≡ validate_op_call self d }
+    pub fn validate_op(self, d: Dot) -> Result<(), OpRefused>
+        ensures { result ≡ validate_op_call self d }
     {
-        if !self.is_normalised() {
-            return OpValidation::Refused;
-        }
-        let last = self.counter(d.actor.0);
+        let last = self.get(d.actor)?;
         if d.counter <= last {
-            return OpValidation::Valid;
+            return Ok(());
         }
         let next = last + 1;
         if next < d.counter {
-            let actor = d.actor;
-            OpValidation::Gap(DotRange {
-                actor,
+            return Err(OpRefused::Gap(DotRange {
+                actor: d.actor,
                 start: next,
                 end: d.counter,
-            })
-        } else {
-            OpValidation::Valid
+            }));
         }
+        Ok(())
     }
 
-    // Any two clocks may be merged. Refuses 3.
-    pub fn validate_merge(self, other: VClock) -> u32
+    // Any two normalised clocks may be merged. Refuses 3.
+    pub fn validate_merge(self, other: VClock) -> Result<(), Refused>
         ensures { result ≡ validate_merge_call self other }
     {
-        if VClock::both_normalised(self, other) {
-            0
+        if self.is_normalised() && other.is_normalised() {
+            Ok(())
         } else {
-            3
+            Err(Refused::BadClock)
         }
     }
 
     // The dot at place i, by ascending actor: a loop over i from 0 is the Rust's iteration. Refuses 3.
-    pub fn nth(self, i: usize) -> Nth
-        ensures { nth_says result ≡ nth_call self i }
+    pub fn nth(self, i: usize) -> Result<Option<Dot>, Refused>
+        ensures { result ≡ nth_call self i }
     {
-        if !self.is_normalised() {
-            return Nth::Refused;
-        }
-        if i < self.len {
-            let d = self.dots[i];
-            Nth::At(d)
-        } else {
-            Nth::Past
-        }
+        let c = self.judged()?;
+        Ok(c.dots[..c.len].get(i).copied())
     }
 
-    fn both_normalised(a: VClock, b: VClock) -> bool
-        ensures { result ≡ every normalised (a ∷ b ∷ []) }
+    // The clock, where it is normalised. Refuses 3.
+    fn judged(self) -> Result<VClock, Refused>
+        ensures { result ≡ judged (self ∷ []) self }
     {
-        if a.is_normalised() {
-            b.is_normalised()
-        } else {
-            false
-        }
-    }
-
-    fn refused(no: u32) -> ClockAnswer
-        ensures { result ≡ clock_answer no [] }
-    {
-        let clock = VClock::new();
-        ClockAnswer { no, clock }
+        self.is_normalised()
+            .then_some(self)
+            .ok_or(Refused::BadClock)
     }
 
     // The counter of an actor.
@@ -310,17 +185,15 @@ impl VClock {
     }
 
     // Both clocks under a rule. Refuses 3; then 6, on the finished result.
-    fn joined(rule: Rule, a: VClock, b: VClock) -> ClockAnswer
+    fn joined(rule: Rule, a: VClock, b: VClock) -> Result<VClock, Refused>
         ensures { result ≡ join_call rule a b }
     {
-        if !VClock::both_normalised(a, b) {
-            return VClock::refused(3);
-        }
+        a.validate_merge(b)?;
         let clock = zip(rule, a, b);
         if clock.len > 16 {
-            VClock::refused(6)
+            Err(Refused::ManyActors)
         } else {
-            ClockAnswer { no: 0, clock }
+            Ok(clock)
         }
     }
 
@@ -335,22 +208,30 @@ impl VClock {
     }
 }
 
+// The clock of one dot; the empty clock where its counter is 0.
+impl From<Dot> for VClock {
+    ghost from_gives = { λ d c. c ≡ vclock (applied [] d) };
+
+    fn from(d: Dot) -> VClock {
+        let mut c = VClock::new();
+        if d.counter == 0 {
+            return c;
+        }
+        c.dots[0] = d;
+        c.len = 1;
+        c
+    }
+}
+
 // The order of two values of which the first covers the second, or the second the first.
-fn by_covering(second: bool, first: bool) -> Comparison
-    ensures { means result ≡ standing second first }
+fn by_covering(second: bool, first: bool) -> Option<Ordering>
+    ensures { result ≡ named (standing second first) }
 {
-    if second {
-        if first {
-            Comparison::Equal
-        } else {
-            Comparison::Greater
-        }
-    } else {
-        if first {
-            Comparison::Less
-        } else {
-            Comparison::None
-        }
+    match (second, first) {
+        (true, true) => Some(Ordering::Equal),
+        (true, false) => Some(Ordering::Greater),
+        (false, true) => Some(Ordering::Less),
+        (false, false) => None,
     }
 }
 

@@ -10,24 +10,21 @@ pub fn dot(actor: u32, counter: u64) -> Dot {
 
 // {actor:counter}
 pub fn one(actor: u32, counter: u64) -> VClock {
-    VClock::from_dot(dot(actor, counter))
+    VClock::from(dot(actor, counter))
 }
 
 // {a:m, b:n}
 pub fn two(a: u32, m: u64, b: u32, n: u64) -> VClock {
-    one(a, m).merge(one(b, n)).clock
+    one(a, m).merge(one(b, n)).unwrap_or(VClock::new())
 }
 
 // `many` actors from `first` on, each with the counter.
-pub fn actors(first: u32, many: u32, counter: u64) -> VClock
+pub(crate) fn actors(first: u32, many: u32, counter: u64) -> VClock
     requires { first + many ≤ 4294967296 }
 {
     let mut c = VClock::new();
-    let mut i: u32 = 0;
-    while i < many {
-        let a = c.apply(dot(first + i, counter));
-        c = a.clock;
-        i += 1;
+    for i in 0..many {
+        c = c.apply(dot(first + i, counter)).unwrap_or(VClock::new());
     }
     c
 }

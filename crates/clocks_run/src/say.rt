@@ -1,84 +1,123 @@
-// Prints words, numbers and answers.
-use clocks::{ClockAnswer, ComparisonAnswer, CounterAnswer, TruthAnswer, VClock};
-use dots::{Comparison, Dot, DotAnswer};
+// Prints words, values and answers.
+use clocks::VClock;
+use contexts::{AddCtx, RmCtx};
+use dots::{Actor, Dot, Refused};
+use std::cmp::Ordering;
 use std::io;
+
+// A value that a call answers: how it is printed, and what stands beside the number of a refusal.
+pub trait Said: Copy {
+    fn nothing() -> Self;
+
+    fn say(self, rt: &impl Print) -> io::Result<()>;
+}
+
+impl Said for u64 {
+    fn nothing() -> u64 {
+        0
+    }
+
+    fn say(self, rt: &impl Print) -> io::Result<()> {
+        rt.print(self)
+    }
+}
+
+impl Said for bool {
+    fn nothing() -> bool {
+        false
+    }
+
+    fn say(self, rt: &impl Print) -> io::Result<()> {
+        words(rt, if self { "yes" } else { "no" })
+    }
+}
+
+impl Said for Dot {
+    fn nothing() -> Dot {
+        Dot::new(Actor(0), 0)
+    }
+
+    fn say(self, rt: &impl Print) -> io::Result<()> {
+        print!(rt; "{}.{}", self.actor.0, self.counter)
+    }
+}
+
+impl Said for Option<Ordering> {
+    fn nothing() -> Option<Ordering> {
+        None
+    }
+
+    fn say(self, rt: &impl Print) -> io::Result<()> {
+        match self {
+            Some(Ordering::Less) => words(rt, "less"),
+            Some(Ordering::Equal) => words(rt, "equal"),
+            Some(Ordering::Greater) => words(rt, "greater"),
+            None => words(rt, "none"),
+        }
+    }
+}
+
+impl Said for VClock {
+    fn nothing() -> VClock {
+        VClock::new()
+    }
+
+    fn say(self, rt: &impl Print) -> io::Result<()> {
+        rt.print(self)
+    }
+}
+
+impl Said for AddCtx {
+    fn nothing() -> AddCtx {
+        AddCtx {
+            clock: VClock::nothing(),
+            dot: Dot::nothing(),
+        }
+    }
+
+    fn say(self, rt: &impl Print) -> io::Result<()> {
+        self.dot.say(rt)?;
+        words(rt, " ")?;
+        self.clock.say(rt)
+    }
+}
+
+impl Said for RmCtx {
+    fn nothing() -> RmCtx {
+        RmCtx {
+            clock: VClock::nothing(),
+        }
+    }
+
+    fn say(self, rt: &impl Print) -> io::Result<()> {
+        self.clock.say(rt)
+    }
+}
 
 pub fn words(rt: &impl Print, w: &str) -> io::Result<()> {
     rt.print(w)
-}
-
-pub fn number(rt: &impl Print, n: u64) -> io::Result<()> {
-    rt.print(n)
 }
 
 pub fn end(rt: &impl Print) -> io::Result<()> {
     words(rt, "\n")
 }
 
-// A refusal number and a space.
-pub fn no(rt: &impl Print, n: u32) -> io::Result<()> {
-    print!(rt; "{n} ")
-}
-
-pub fn dot(rt: &impl Print, d: Dot) -> io::Result<()> {
-    print!(rt; "{}.{}", d.actor.0, d.counter)
-}
-
-pub fn truth(rt: &impl Print, b: bool) -> io::Result<()> {
-    if b { words(rt, "yes") } else { words(rt, "no") }
-}
-
-pub fn order(rt: &impl Print, c: Comparison) -> io::Result<()> {
-    match c {
-        Comparison::Less => words(rt, "less"),
-        Comparison::Equal => words(rt, "equal"),
-        Comparison::Greater => words(rt, "greater"),
-        Comparison::None => words(rt, "none"),
+// The number of an answer, as this program prints it: 0 where it is granted.
+pub fn number<T: Copy>(a: Result<T, Refused>) -> u32 {
+    match a {
+        Ok(_) => 0,
+        Err(refused) => refused.number(),
     }
 }
 
-pub fn clock(rt: &impl Print, c: VClock) -> io::Result<()> {
-    let mut text = [0u8; 528];
-    let s = display::display(c, &mut text);
-    if s.len <= 528 {
-        rt.write_all(&text[..s.len])
-    } else {
-        Ok(())
-    }
+// An answer's number and its value.
+pub fn answer<T: Said>(rt: &impl Print, a: Result<T, Refused>) -> io::Result<()> {
+    print!(rt; "{} ", number(a))?;
+    a.unwrap_or(T::nothing()).say(rt)
 }
 
-pub fn dot_line(rt: &impl Print, w: &str, a: DotAnswer) -> io::Result<()> {
+pub fn line<T: Said>(rt: &impl Print, w: &str, a: Result<T, Refused>) -> io::Result<()> {
     words(rt, w)?;
-    no(rt, a.no)?;
-    dot(rt, a.dot)?;
-    end(rt)
-}
-
-pub fn clock_line(rt: &impl Print, w: &str, a: ClockAnswer) -> io::Result<()> {
-    words(rt, w)?;
-    no(rt, a.no)?;
-    clock(rt, a.clock)?;
-    end(rt)
-}
-
-pub fn counter_line(rt: &impl Print, w: &str, a: CounterAnswer) -> io::Result<()> {
-    words(rt, w)?;
-    no(rt, a.no)?;
-    number(rt, a.counter)?;
-    end(rt)
-}
-
-pub fn truth_line(rt: &impl Print, w: &str, a: TruthAnswer) -> io::Result<()> {
-    words(rt, w)?;
-    no(rt, a.no)?;
-    truth(rt, a.holds)?;
-    end(rt)
-}
-
-pub fn order_line(rt: &impl Print, w: &str, a: ComparisonAnswer) -> io::Result<()> {
-    words(rt, w)?;
-    no(rt, a.no)?;
-    let o = a.order;
-    order(rt, o)?;
+    answer(rt, a)?;
     end(rt)
 }

@@ -1,110 +1,107 @@
--- `derive_add_ctx` by the answers of `inc` and of `apply`: where both clocks are fit, the number is that of `inc`, and that of `apply` where it is 0.
-use Prim.Native.Nat.{ℕ, ◌+◌}
-use mathlib.Core.Path.{◌≡◌, refl, sym, ap, ◌∙◌}
-use mathlib.Core.Bool.{Bool, true, false}
-use native.Mathlib.Omega.{arith}
-use lib.Dec.{eqb, ltb}
-use lib.ListN.{length}
-use Rattle.tables.specs.Table.{pick}
+-- The calls by the answers of `inc` and of `apply`: where both clocks are fit, the refusal is that of `inc`, and that of `apply` where it has none.
+use Rattle.std.proofs.Common.{◌≡◌, ℕ, ◌+◌, Bool, true, false, List, [], ◌∷◌, Result, Ok, Err, eqb, ltb, length, refl, sym, ap, ◌∙◌}
+use Rattle.tables.specs.Table.{pick, every}
 use Rattle.tables.specs.Refusal.{first_of}
 use Rattle.dots.specs.declared.Dot.{Dot}
-use Rattle.dots.specs.declared.DotAnswer.{DotAnswer}
+use Rattle.dots.specs.declared.refusals.Refused.{Refused}
+use Rattle.dots.specs.declared.refusals.Refused.TheVariants.{BadClock}
+use Rattle.dots.specs.Answers.{answer, refusal}
+use Rattle.dots.proofs.AnswersFacts.{answered_ok}
 use Rattle.dots.specs.Dot.{dot}
 use Rattle.dots.specs.Clock.{Clock, count, applied}
-use Rattle.dots.specs.Rising.{both_left}
-use Rattle.clocks.specs.declared.ClockAnswer.{ClockAnswer}
-use Rattle.clocks.specs.VClock.{dots_of, normalised}
-use Rattle.clocks.specs.Calls.{dot_answer, clock_answer, inc_call, apply_call}
+use Rattle.clocks.specs.declared.VClock.{VClock}
+use Rattle.clocks.specs.VClock.{dots_of, vclock, normalised, each}
+use Rattle.clocks.specs.Calls.{judged, clock_answer, inc_call, apply_call}
+use Rattle.clocks.proofs.Steps.{and-true}
 use Rattle.contexts.specs.declared.ReadCtx.{ReadCtx}
-use Rattle.contexts.specs.Contexts.{fit, add_ctx_answer, refused_add, add_ctx_call}
+use Rattle.contexts.specs.declared.AddCtx.{AddCtx}
+use Rattle.contexts.specs.Contexts.{fit, unfit, add_ctx_call}
+
+-- both clocks of a context, as the calls on clocks judge them
+abbrev pub clocks_of : ReadCtx → List VClock
+clocks_of x = x.add_clock ∷ x.rm_clock ∷ []
+
+pub fit_is : (x : ReadCtx) → fit x ≡ every normalised (clocks_of x)
+unfolding fit
+fit_is x = rw and-true refl
+
+pub judged_is : {A : Type 0} (x : ReadCtx) (a : A) → judged (clocks_of x) a ≡ answer (first_of (unfit x ∷ [])) a
+unfolding judged
+judged_is x a = rw fit_is refl
 
 -- ---- the three ways, by the two tests: l, the counter is the largest, and w, the result has too many actors
 
-abbrev spent : Bool → ℕ
-spent l = pick l 5 0
+module _ {D K V : Type 0} (d : D) (k : K) (v : V) where
+  spent : (l w : Bool) (r : Refused) → Err r ≡ answer (pick l 5 0) d → Err r ≡ answer (pick l 5 (pick w 6 0)) v
+  unfolding answer
+  spent true w r e = let f : ◌≡◌ {A = Result D Refused} (Err r) (Err (refusal 5)) = e in let g : r ≡ refusal 5 = cc in ap Err g
+  spent false w r e = let f : ◌≡◌ {A = Result D Refused} (Err r) (Ok d) = e in cc
 
-abbrev full : Bool → ℕ
-full w = pick w 6 0
+  wide : (l w : Bool) (x : D) (r : Refused) → Ok x ≡ answer (pick l 5 0) d → Err r ≡ answer (pick w 6 0) k → Err r ≡ answer (pick l 5 (pick w 6 0)) v
+  unfolding answer
+  wide true w x r e f = let g : ◌≡◌ {A = Result D Refused} (Ok x) (Err (refusal 5)) = e in cc
+  wide false true x r e f = let g : ◌≡◌ {A = Result K Refused} (Err r) (Err (refusal 6)) = f in let h : r ≡ refusal 6 = cc in ap Err h
+  wide false false x r e f = let g : ◌≡◌ {A = Result K Refused} (Err r) (Ok k) = f in cc
 
-abbrev number : Bool → Bool → ℕ
-number l w = pick l 5 (full w)
-
-module _ (c : Clock) (d : Dot) where
-  no_next : (l w : Bool) → (spent l ≡ 0 → ⊥) → refused_add (spent l) ≡ add_ctx_answer (number l w) c d
-  unfolding add_ctx_answer
-  no_next true w h = refl
-  no_next false w h = absurd (h refl)
-
-  no_room : (l w : Bool) → spent l ≡ 0 → (full w ≡ 0 → ⊥) → refused_add (full w) ≡ add_ctx_answer (number l w) c d
-  unfolding add_ctx_answer
-  no_room true w z h = absurd (omega arith)
-  no_room false true z h = refl
-  no_room false false z h = absurd (h refl)
-
-  both_there : (l w : Bool) → spent l ≡ 0 → full w ≡ 0
-      → record { no = 0; ctx = record { clock = (clock_answer (full w) c).clock; dot = (dot_answer (spent l) d).dot } } ≡ add_ctx_answer (number l w) c d
-  unfolding add_ctx_answer clock_answer dot_answer
-  both_there true w z h = absurd (omega arith)
-  both_there false true z h = absurd (omega arith)
-  both_there false false z h = refl
-
-  same_dot : (l : Bool) → spent l ≡ 0 → (dot_answer (spent l) d).dot ≡ d
-  unfolding dot_answer
-  same_dot true z = absurd (omega arith)
-  same_dot false z = refl
+  granted : (l w : Bool) (x : D) (y : K) → Ok x ≡ answer (pick l 5 0) d → Ok y ≡ answer (pick w 6 0) k → Ok v ≡ answer (pick l 5 (pick w 6 0)) v
+  unfolding answer
+  granted true w x y e f = let g : ◌≡◌ {A = Result D Refused} (Ok x) (Err (refusal 5)) = e in cc
+  granted false true x y e f = let g : ◌≡◌ {A = Result K Refused} (Ok y) (Err (refusal 6)) = f in cc
+  granted false false x y e f = refl
 
 -- ---- of a context and an actor
 
-module _ (x : ReadCtx) (a : ℕ) (f : fit x ≡ true) where
+module _ (x : ReadCtx) (a : ℕ) where
   abbrev c₀ : Clock
   c₀ = dots_of x.add_clock
 
   abbrev d₀ : Dot
   d₀ = dot a (count c₀ a + 1)
 
+  abbrev k₀ : VClock
+  k₀ = vclock (applied c₀ d₀)
+
+  abbrev v₀ : AddCtx
+  v₀ = record { clock = k₀; dot = d₀ }
+
   abbrev largest : Bool
   largest = eqb (count c₀ a) 18446744073709551615
 
-  abbrev wide : Bool
-  wide = ltb 16 (length (applied c₀ d₀))
+  abbrev full : Bool
+  full = ltb 16 (length (applied c₀ d₀))
 
-  good : normalised x.add_clock ≡ true
-  unfolding fit
-  good = both_left (normalised x.add_clock) (normalised x.rm_clock) f
+  pub unfit_add : every normalised (clocks_of x) ≡ false → Err BadClock ≡ add_ctx_call x a
+  unfolding add_ctx_call answer refusal first_of
+  unfit_add e = simp (fit_is x, e)
 
-  inc_is : inc_call x.add_clock a ≡ dot_answer (spent largest) d₀
-  unfolding inc_call first_of
-  inc_is = rw good
+  module _ (e : every normalised (clocks_of x) ≡ true) where
+    good : normalised x.add_clock ≡ true
+    good = (each x.add_clock x.rm_clock e).0
 
-  apply_is : apply_call x.add_clock d₀ ≡ clock_answer (full wide) (applied c₀ d₀)
-  unfolding apply_call first_of
-  apply_is = rw good
+    inc_is : inc_call x.add_clock a ≡ answer (pick largest 5 0) d₀
+    unfolding inc_call first_of
+    inc_is = rw good
 
-  call_is : add_ctx_call x a ≡ add_ctx_answer (number largest wide) (applied c₀ d₀) d₀
-  unfolding add_ctx_call first_of
-  call_is = rw f
+    apply_is : apply_call x.add_clock d₀ ≡ answer (pick full 6 0) k₀
+    unfolding apply_call clock_answer first_of
+    apply_is = rw good
 
-  module _ (next : DotAnswer) (e : next ≡ inc_call x.add_clock a) where
-    next_no : next.no ≡ spent largest
-    unfolding dot_answer
-    next_no = ap (λ (r : DotAnswer). r.no) (e ∙ inc_is)
+    call_is : add_ctx_call x a ≡ answer (pick largest 5 (pick full 6 0)) v₀
+    unfolding add_ctx_call first_of
+    call_is = rw (fit_is, e)
 
-    pub next_refused : (next.no ≡ 0 → ⊥) → refused_add next.no ≡ add_ctx_call x a
-    next_refused h = rw (next_no, call_is) (no_next (applied c₀ d₀) d₀ largest wide (rw next_no at h))
+    pub next_refused : (r : Refused) → Err r ≡ inc_call x.add_clock a → Err r ≡ add_ctx_call x a
+    next_refused r h = spent d₀ k₀ v₀ largest full r (h ∙ inc_is) ∙ sym call_is
 
-    module _ (z : next.no ≡ 0) (after : ClockAnswer) (g : after ≡ apply_call x.add_clock next.dot) where
-      none : spent largest ≡ 0
-      none = sym next_no ∙ z
+    module _ (d : Dot) (h : Ok d ≡ inc_call x.add_clock a) where
+      pub next_is : d ≡ d₀
+      next_is = sym (answered_ok (pick largest 5 0) d₀ d (sym inc_is ∙ sym h)).1
 
-      after_is : after ≡ clock_answer (full wide) (applied c₀ d₀)
-      after_is = g ∙ ap (apply_call x.add_clock) (ap (λ (r : DotAnswer). r.dot) (e ∙ inc_is) ∙ same_dot (applied c₀ d₀) d₀ largest none) ∙ apply_is
+      pub after_refused : (r : Refused) → Err r ≡ apply_call x.add_clock d → Err r ≡ add_ctx_call x a
+      after_refused r f = wide d₀ k₀ v₀ largest full d r (h ∙ inc_is) (rw next_is at f ∙ apply_is) ∙ sym call_is
 
-      after_no : after.no ≡ full wide
-      unfolding clock_answer
-      after_no = ap (λ (r : ClockAnswer). r.no) after_is
-
-      pub after_refused : (after.no ≡ 0 → ⊥) → refused_add after.no ≡ add_ctx_call x a
-      after_refused h = rw (after_no, call_is) (no_room (applied c₀ d₀) d₀ largest wide none (rw after_no at h))
-
-      pub derived : after.no ≡ 0 → record { no = 0; ctx = record { clock = after.clock; dot = next.dot } } ≡ add_ctx_call x a
-      derived h = rw (after_is, e, inc_is, call_is) (both_there (applied c₀ d₀) d₀ largest wide none (sym after_no ∙ h))
+      pub derived : (k : VClock) → Ok k ≡ apply_call x.add_clock d → Ok (record { clock = k; dot = d }) ≡ add_ctx_call x a
+      derived k f =
+          let g = rw next_is at f ∙ apply_is in
+          let is : k ≡ k₀ = sym (answered_ok (pick full 6 0) k₀ k (sym g)).1 in
+          rw (is, next_is) (granted d₀ k₀ v₀ largest full d k (h ∙ inc_is) g ∙ sym call_is)

@@ -1,51 +1,42 @@
-// The clock's Display: its dots as text, written into a lent output.
+// The clock's text, written into a lent output. It is written by hand, and not by `write!` over the clock's `Display`: no clause of `write!` says that
+// it succeeds where there is room.
 #![tactic(auto)]
 
 ghost use Rattle.std.specs.Prelude.{◌≡◌, ◌++◌, ◌≤◌, length};
-ghost use Rattle.clocks.specs.VClock.{dots_of};
 ghost use Rattle.display.specs.Text.{width, digits, decimal, dot_text, item, items, text, shown, shown_in};
 ghost use Rattle.display.specs.Put.{Room, Put};
 
 use clocks::VClock;
-use dots::Dot;
+use dots::{Dot, Refused};
 
-// A refusal number, and how many bytes were written where it is 0.
-#[derive(Clone, Copy)]
-pub struct Shown {
-    pub no: u32,
-    pub len: usize,
+// Writes the clock as text from byte 0, leaves the later bytes, and returns how many were written. Refuses 3; then 10 where the output is shorter
+// than the text. A refusal writes nothing.
+pub fn display(c: VClock, out: &mut [u8]) -> Result<usize, Refused>
+    ensures says { result ≡ shown c (length out.old) }
+    ensures written { out.new ≡ shown_in c out.old }
+{
+    if !c.is_normalised() {
+        return Err(Refused::BadClock);
+    }
+    let dots = &c.dots[..c.len];
+    let n = text_len(dots);
+    if out.len() < n {
+        return Err(Refused::ShortOutput);
+    }
+    put_text(out, dots);
+    Ok(n)
 }
 
-// Writes the clock as text from byte 0 and leaves the later bytes. Refuses 3; then 10 where the output is shorter than the text. A refusal writes nothing.
-pub fn display(c: VClock, out: &mut [u8]) -> Shown
-    ensures { (result ≡ shown c (length out.old)) × (out.new ≡ shown_in c out.old) }
+// How long the text of a clock's dots is.
+fn text_len(dots: &[Dot]) -> usize
+    requires { length dots.now ≤ 16 }
+    ensures { result ≡ length (text dots.now) }
 {
-    if c.is_normalised() {
-        let n = text_len(c);
-        if out.len() < n {
-            return Shown { no: 10, len: 0 };
-        }
-        put_text(out, c);
-        Shown { no: 0, len: n }
-    } else {
-        Shown { no: 3, len: 0 }
+    let mut t: usize = 2;
+    for (i, d) in dots.iter().enumerate() {
+        t += item_len(i, *d);
     }
-}
-
-// How long the clock's text is.
-fn text_len(c: VClock) -> usize
-    requires { c.len ≤ 16 }
-    ensures { result ≡ length (text (dots_of c)) }
-{
-    let n = c.len;
-    let mut t: usize = 0;
-    let mut i: usize = 0;
-    while i < n {
-        let d = c.dots[i];
-        t += item_len(i, d);
-        i += 1;
-    }
-    t + 2
+    t
 }
 
 // How long the i-th dot's text is.
@@ -63,37 +54,28 @@ fn item_len(i: usize, d: Dot) -> usize
 fn width_of(n: u64) -> usize
     ensures { (result ≡ width n) × (result ≤ 20) }
 {
-    let mut w: usize = 1;
-    let mut m = n;
-    while 10 <= m {
-        m /= 10;
-        w += 1;
-    }
-    w
+    n.max(1).ilog10() as usize + 1
 }
 
-// Writes the text of a clock. This and each `put` below return the place after what they write.
-fn put_text(out: &mut [u8], c: VClock) -> usize
-    requires { (c.len ≤ 16) × Room 0 (text (dots_of c)) out.old }
-    ensures { Put out.old 0 (text (dots_of c)) result out.new }
+// Writes the text of a clock's dots. This and each `put` below return the place after what they write. The place is lent beside the output: a slice
+// from it on would be cut anew at each call, and its start added to the answer.
+fn put_text(out: &mut [u8], dots: &[Dot]) -> usize
+    requires { Room 0 (text dots.now) out.old }
+    ensures { Put out.old 0 (text dots.now) result out.new }
 {
     let p = put(out, 0, b"<");
-    let q = put_items(out, p, c);
+    let q = put_items(out, p, dots);
     put(out, q, b">")
 }
 
 // Writes the dots of a clock.
-fn put_items(out: &mut [u8], at: usize, c: VClock) -> usize
-    requires { (c.len ≤ 16) × Room at (items 0 (dots_of c)) out.old }
-    ensures { Put out.old at (items 0 (dots_of c)) result out.new }
+fn put_items(out: &mut [u8], at: usize, dots: &[Dot]) -> usize
+    requires { Room at (items 0 dots.now) out.old }
+    ensures { Put out.old at (items 0 dots.now) result out.new }
 {
-    let n = c.len;
     let mut p = at;
-    let mut i: usize = 0;
-    while i < n {
-        let d = c.dots[i];
-        p = put_item(out, p, i, d);
-        i += 1;
+    for (i, d) in dots.iter().enumerate() {
+        p = put_item(out, p, i, *d);
     }
     p
 }
@@ -133,12 +115,9 @@ fn put(out: &mut [u8], at: usize, s: &[u8]) -> usize
     requires { Room at s.now out.old }
     ensures { Put out.old at s.now result out.new }
 {
-    let mut i: usize = 0;
-    while i < s.len() {
-        out[at + i] = s[i];
-        i += 1;
-    }
-    at + i
+    let end = at + s.len();
+    out[at..end].copy_from_slice(s);
+    end
 }
 
 // Writes the last k digits of n, from the right.
@@ -146,10 +125,8 @@ fn put_digits(out: &mut [u8], at: usize, k: usize, n: u64) -> usize
     requires { Room at (digits k n) out.old }
     ensures { Put out.old at (digits k n) result out.new }
 {
-    let mut i = k;
     let mut m = n;
-    while 0 < i {
-        i -= 1;
+    for i in (0..k).rev() {
         out[at + i] = (48 + m % 10) as u8;
         m /= 10;
     }

@@ -1,6 +1,9 @@
 -- What the calls on dots answer, under document 01's words.
-use Prim.Native.Nat.{◌+◌, ◌≤◌, ◌<◌, Ordering}
-use Rattle.std.specs.Prelude.{◌≡◌, refl, Bool, true, false, ◌&&◌, leb, eqb}
+use Prim.Native.Nat.{◌+◌, ◌≤◌, ◌<◌}
+use Prim.Native.Nat as nat
+use Rattle.std.specs.Prelude.{◌≡◌, refl, Bool, true, false, ◌&&◌, leb, eqb, Option, Some, None, Result}
+use Rattle.std.specs.declared.cmp.Ordering.{Ordering}
+use Rattle.std.specs.declared.cmp.Ordering.TheVariants.{Less, Equal, Greater}
 use Rattle.std.proofs.Common.{sym, ap, ◌∙◌, arith, leb-true, leb-false, eqb-true, eq-eqb}
 use Rattle.std.proofs.lemmas.Bool.{false≢true}
 use Rattle.std.proofs.Math.Dec.{is_le}
@@ -8,15 +11,13 @@ use Rattle.tables.specs.Order.{turn}
 use Rattle.tables.specs.Table.{pick}
 use Rattle.dots.specs.declared.Dot.{Dot}
 use Rattle.dots.specs.declared.OrdDot.{OrdDot}
-use Rattle.dots.specs.declared.DotAnswer.{DotAnswer}
-use Rattle.dots.specs.declared.Comparison.{Comparison}
-use Rattle.dots.specs.declared.Comparison.TheVariants.{Less, Equal, Greater, None}
-use Rattle.dots.specs.Dot.{actor_of, dot, no_dot, cmp_dot, dot_order}
+use Rattle.dots.specs.declared.refusals.Refused.{Refused}
+use Rattle.dots.specs.Answers.{answer}
+use Rattle.dots.specs.Dot.{actor_of, dot, cmp_dot, dot_order}
 
 -- "`inc` gives the actor's counter plus 1", and 5 if "a successor is asked of counter 18446744073709551615"
-unfoldable pub inc_of : Dot → DotAnswer
-inc_of d =
-    pick (eqb d.counter 18446744073709551615) (record { no = 5; dot = no_dot }) (record { no = 0; dot = dot (actor_of d) (d.counter + 1) })
+unfoldable pub inc_of : Dot → Result Dot Refused
+inc_of d = answer (pick (eqb d.counter 18446744073709551615) 5 0) (dot (actor_of d) (d.counter + 1))
 
 -- ---- what a comparison's answer says: whether the first is at least the second, and the second at least the first
 
@@ -27,11 +28,15 @@ pub record Standing : Type 0 where
 abbrev pub standing : Bool → Bool → Standing
 standing p q = record { first_at_least = p; second_at_least = q }
 
-abbrev pub means : Comparison → Standing
-means Less = standing false true
-means Equal = standing true true
-means Greater = standing true false
+abbrev pub means : Option Ordering → Standing
+means (Some Less) = standing false true
+means (Some Equal) = standing true true
+means (Some Greater) = standing true false
 means None = standing false false
+
+-- and the answer that says it
+abbrev pub named : Standing → Option Ordering
+named s = pick s.first_at_least (Some (pick s.second_at_least Equal Greater)) (pick s.second_at_least (Some Less) None)
 
 -- "Dots of one actor compare by counter; of different actors not at all."
 unfoldable pub at_least : Dot → Dot → Bool
@@ -53,24 +58,27 @@ ord_at_least d e = is_le (cmp_dot (dot_of e) (dot_of d))
 -- ---- theorems
 
 -- the answer is determined by what it says: any two that a promise allows are equal
-abbrev named : Standing → Comparison
-named s = pick s.first_at_least (pick s.second_at_least Equal Greater) (pick s.second_at_least Less None)
+pub means_named : (p q : Bool) → means (named (standing p q)) ≡ standing p q
+means_named true true = refl
+means_named true false = refl
+means_named false true = refl
+means_named false false = refl
 
-named_means : (r : Comparison) → named (means r) ≡ r
-named_means Less = refl
-named_means Equal = refl
-named_means Greater = refl
+pub named_means : (r : Option Ordering) → named (means r) ≡ r
+named_means (Some Less) = refl
+named_means (Some Equal) = refl
+named_means (Some Greater) = refl
 named_means None = refl
 
-pub means_one : (r s : Comparison) → means r ≡ means s → r ≡ s
+pub means_one : (r s : Option Ordering) → means r ≡ means s → r ≡ s
 means_one r s h = sym (named_means r) ∙ ap named h ∙ named_means s
 
 -- ---- what each answer says of two dots
 
-abbrev pub Says : Comparison → Dot → Dot → Type 0
-Says Less d e = (actor_of d ≡ actor_of e) × (d.counter < e.counter)
-Says Equal d e = d ≡ e
-Says Greater d e = (actor_of d ≡ actor_of e) × (e.counter < d.counter)
+abbrev pub Says : Option Ordering → Dot → Dot → Type 0
+Says (Some Less) d e = (actor_of d ≡ actor_of e) × (d.counter < e.counter)
+Says (Some Equal) d e = d ≡ e
+Says (Some Greater) d e = (actor_of d ≡ actor_of e) × (e.counter < d.counter)
 Says None d e = actor_of d ≡ actor_of e → ⊥
 
 both : (p q : Bool) → (p && q) ≡ true → (p ≡ true) × (q ≡ true)
@@ -87,17 +95,17 @@ below : (d e : Dot) → at_least d e ≡ false → actor_of d ≡ actor_of e →
 unfolding at_least
 below d e h same = leb-false e.counter d.counter (rw (eq-eqb (actor_of d) (actor_of e) same) at h)
 
-pub compare_says : (d e : Dot) (r : Comparison) → means r ≡ standing (at_least d e) (at_least e d) → Says r d e
+pub compare_says : (d e : Dot) (r : Option Ordering) → means r ≡ standing (at_least d e) (at_least e d) → Says r d e
 compare_says d e r h = go r (sym (ap (λ (t : Standing). t.first_at_least) h)) (sym (ap (λ (t : Standing). t.second_at_least) h))
   where
-    go : (r : Comparison) → at_least d e ≡ (means r).first_at_least → at_least e d ≡ (means r).second_at_least → Says r d e
-    go Less p q = let s = sym (when_at_least e d q).0 in (s, below d e p s)
-    go Equal p q =
+    go : (r : Option Ordering) → at_least d e ≡ (means r).first_at_least → at_least e d ≡ (means r).second_at_least → Says r d e
+    go (Some Less) p q = let s = sym (when_at_least e d q).0 in (s, below d e p s)
+    go (Some Equal) p q =
         let s = when_at_least d e p in
         let t = when_at_least e d q in
         let n : d.counter ≡ e.counter = omega arith in
         λ i. dot (s.0 i) (n i)
-    go Greater p q = let s = (when_at_least d e p).0 in (s, below e d q (sym s))
+    go (Some Greater) p q = let s = (when_at_least d e p).0 in (s, below e d q (sym s))
     go None p q = λ s. let l = below d e p s in let m = below e d q (sym s) in omega arith
 
 pub same_says : (d e : Dot) → same_dot d e ≡ true → d ≡ e
@@ -112,16 +120,16 @@ same_self d = rw (eq-eqb (actor_of d) (actor_of d) refl, eq-eqb d.counter d.coun
 
 -- ---- the answer on ordered dots is that of the total order `dot_order`, and so never none
 
-abbrev pub ordered : Ordering → Comparison
-ordered Ordering.lt = Less
-ordered Ordering.eq = Equal
-ordered Ordering.gt = Greater
+abbrev pub ordered : nat.Ordering → Ordering
+ordered nat.Ordering.lt = Less
+ordered nat.Ordering.eq = Equal
+ordered nat.Ordering.gt = Greater
 
-pub ord_compares : (d e : OrdDot) (r : Comparison) → means r ≡ standing (ord_at_least d e) (ord_at_least e d) → r ≡ ordered (cmp_dot (dot_of d) (dot_of e))
+pub ord_compares : (d e : OrdDot) (r : Option Ordering) → means r ≡ standing (ord_at_least d e) (ord_at_least e d) → r ≡ Some (ordered (cmp_dot (dot_of d) (dot_of e)))
 unfolding ord_at_least
 ord_compares d e r h = means_one r _ (h ∙ rw (dot_order.back (dot_of d) (dot_of e)) (go (cmp_dot (dot_of d) (dot_of e))))
   where
-    go : (o : Ordering) → standing (is_le (turn o)) (is_le o) ≡ means (ordered o)
-    go Ordering.lt = refl
-    go Ordering.eq = refl
-    go Ordering.gt = refl
+    go : (o : nat.Ordering) → standing (is_le (turn o)) (is_le o) ≡ means (Some (ordered o))
+    go nat.Ordering.lt = refl
+    go nat.Ordering.eq = refl
+    go nat.Ordering.gt = refl

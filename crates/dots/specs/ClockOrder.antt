@@ -1,9 +1,9 @@
 -- Merging is commutative, associative and idempotent, covering is an order, and the four answers of a comparison say which.
-use Rattle.std.specs.Prelude.{◌≡◌, T}
+use Rattle.std.specs.Prelude.{◌≡◌, T, Option, Some, None}
+use Rattle.std.specs.declared.cmp.Ordering.{Ordering}
+use Rattle.std.specs.declared.cmp.Ordering.TheVariants.{Less, Equal, Greater}
 use Rattle.std.proofs.Common.{sym, ap, subst, arith}
 use Rattle.tables.specs.Table.{Normal}
-use Rattle.dots.specs.declared.Comparison.{Comparison}
-use Rattle.dots.specs.declared.Comparison.TheVariants.{Less, Equal, Greater, None}
 use Rattle.dots.specs.Dot.{clocks}
 use Rattle.dots.specs.Calls.{Standing, standing, means}
 use Rattle.dots.specs.Clock.{Clock, covers, merged}
@@ -44,17 +44,17 @@ covers_merged v c d nd p q =
     (λ a. let l = covers_le v c p a in let m = covers_le v d q a in let e = merged_count c d a in omega arith)
 
 -- "Equal if the same; Greater if the first covers the second; Less if the second covers the first; otherwise none"
-abbrev pub SaysOf : Comparison → Clock → Clock → Type 0
-SaysOf Equal c d = c ≡ d
-SaysOf Greater c d = T (covers c d) × (c ≡ d → ⊥)
-SaysOf Less c d = T (covers d c) × (c ≡ d → ⊥)
+abbrev pub SaysOf : Option Ordering → Clock → Clock → Type 0
+SaysOf (Some Equal) c d = c ≡ d
+SaysOf (Some Greater) c d = T (covers c d) × (c ≡ d → ⊥)
+SaysOf (Some Less) c d = T (covers d c) × (c ≡ d → ⊥)
 SaysOf None c d = (T (covers c d) → ⊥) × (T (covers d c) → ⊥)
 
-pub compared_says : (r : Comparison) (c d : Clock) → Normal clocks c → Normal clocks d → means r ≡ standing (covers c d) (covers d c) → SaysOf r c d
+pub compared_says : (r : Option Ordering) (c d : Clock) → Normal clocks c → Normal clocks d → means r ≡ standing (covers c d) (covers d c) → SaysOf r c d
 compared_says r c d nc nd h = go r (sym (ap (λ (t : Standing). t.first_at_least) h)) (sym (ap (λ (t : Standing). t.second_at_least) h))
   where
-    go : (r : Comparison) → covers c d ≡ (means r).first_at_least → covers d c ≡ (means r).second_at_least → SaysOf r c d
-    go Less p q = (rw q tt, λ e. let t : T (covers c d) = subst (λ (x : Clock). T (covers c x)) e (covers_self c nc) in rw p at t)
-    go Equal p q = covers_both c d nc nd (rw p tt) (rw q tt)
-    go Greater p q = (rw p tt, λ e. let t : T (covers d c) = subst (λ (x : Clock). T (covers x c)) e (covers_self c nc) in rw q at t)
+    go : (r : Option Ordering) → covers c d ≡ (means r).first_at_least → covers d c ≡ (means r).second_at_least → SaysOf r c d
+    go (Some Less) p q = (rw q tt, λ e. let t : T (covers c d) = subst (λ (x : Clock). T (covers c x)) e (covers_self c nc) in rw p at t)
+    go (Some Equal) p q = covers_both c d nc nd (rw p tt) (rw q tt)
+    go (Some Greater) p q = (rw p tt, λ e. let t : T (covers d c) = subst (λ (x : Clock). T (covers x c)) e (covers_self c nc) in rw q at t)
     go None p q = (λ t. rw p at t, λ t. rw q at t)

@@ -1,4 +1,5 @@
 pub mod Dot
+pub mod Answers
 pub mod Calls
 pub mod Clock
 pub mod ClockLaws

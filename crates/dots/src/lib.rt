@@ -1,51 +1,41 @@
-// Dots: one actor's events by number (src/dot.rs of the crate). A clock as a list of dots stands in specs/.
+// Dots: one actor's events by number (src/dot.rs of the crate), and what a call refuses with. A clock as a list of dots stands in specs/.
 #![tactic(auto)]
 
-ghost use Rattle.std.specs.Prelude.{◌≡◌, leb};
+mod refusals;
+
+ghost use Rattle.std.specs.Prelude.{◌≡◌, Some};
+ghost use Rattle.dots.specs.Answers.{number, op_number};
 ghost use Rattle.dots.specs.Dot.{dot};
 ghost use Rattle.dots.specs.Calls.{inc_of, means, standing, at_least, ord_at_least, same_dot, dot_of, ord_of};
 
-#[derive(Clone, Copy)]
+pub use refusals::{OpRefused, Refused};
+use std::cmp::Ordering;
+
+#[derive(Clone, Copy, Debug, PartialEq, Eq, PartialOrd, Ord)]
 pub struct Actor(pub u32);
 
-#[derive(Clone, Copy)]
+#[derive(Clone, Copy, Debug, PartialEq, Eq, PartialOrd, Ord)]
 pub struct Member(pub u32);
 
-#[derive(Clone, Copy)]
+#[derive(Clone, Copy, Debug, PartialEq, Eq)]
 pub struct Dot {
     pub actor: Actor,
     pub counter: u64,
 }
 
 // A dot under the order by actor, then counter.
-#[derive(Clone, Copy)]
+#[derive(Clone, Copy, Debug, PartialEq, Eq, PartialOrd, Ord)]
 pub struct OrdDot {
     pub actor: Actor,
     pub counter: u64,
 }
 
 // The dots of one actor from `start` on, `end` excluded.
-#[derive(Clone, Copy)]
+#[derive(Clone, Copy, Debug, PartialEq, Eq)]
 pub struct DotRange {
     pub actor: Actor,
     pub start: u64,
     pub end: u64,
-}
-
-// How the first of two stands to the second; `None`: neither is at least the other.
-#[derive(Clone, Copy)]
-pub enum Comparison {
-    Less,
-    Equal,
-    Greater,
-    None,
-}
-
-// A refusal number, and the dot where it is 0.
-#[derive(Clone, Copy)]
-pub struct DotAnswer {
-    pub no: u32,
-    pub dot: Dot,
 }
 
 impl Dot {
@@ -57,87 +47,60 @@ impl Dot {
     }
 
     // The next dot of the same actor. Refuses 5.
-    pub fn inc(self) -> DotAnswer
+    pub fn inc(self) -> Result<Dot, Refused>
         ensures { result ≡ inc_of self }
     {
         if self.counter == 18446744073709551615 {
-            DotAnswer {
-                no: 5,
-                dot: Dot::new(Actor(0), 0),
-            }
+            Err(Refused::LastCounter)
         } else {
-            DotAnswer {
-                no: 0,
-                dot: Dot::new(self.actor, self.counter + 1),
-            }
+            Ok(Dot::new(self.actor, self.counter + 1))
         }
     }
 
-    // Dots of one actor by counter; of different actors `None`.
-    pub fn compare(self, other: Dot) -> Comparison
+    // Dots of one actor by counter; of different actors `None`, which no derived order gives.
+    pub fn compare(self, other: Dot) -> Option<Ordering>
         ensures { means result ≡ standing (at_least self other) (at_least other self) }
     {
-        if self.actor.0 == other.actor.0 {
-            by_number(self.counter, other.counter)
+        if self.actor == other.actor {
+            Some(self.counter.cmp(&other.counter))
         } else {
-            Comparison::None
+            None
         }
     }
 
     // Whether actor and counter are the same.
+    #[tactic(auto, unfolding(crate::specs::Calls::same_dot))]
     pub fn same(self, other: Dot) -> bool
         ensures { result ≡ same_dot self other }
     {
-        if self.actor.0 == other.actor.0 {
-            self.counter == other.counter
-        } else {
-            false
-        }
-    }
-
-    // The dot of an ordered one.
-    pub fn from_ord(d: OrdDot) -> Dot
-        ensures { result ≡ dot_of d }
-    {
-        Dot::new(d.actor, d.counter)
+        self == other
     }
 }
 
 impl OrdDot {
-    // The ordered dot of a dot.
-    pub fn from_dot(d: Dot) -> OrdDot
-        ensures { result ≡ ord_of d }
+    // By actor, then counter.
+    pub fn compare(self, other: OrdDot) -> Ordering
+        ensures { means (Some result) ≡ standing (ord_at_least self other) (ord_at_least other self) }
     {
-        let actor = d.actor;
-        OrdDot {
-            actor,
-            counter: d.counter,
-        }
-    }
-
-    // By actor, then counter: never `None`.
-    pub fn compare(self, other: OrdDot) -> Comparison
-        ensures { means result ≡ standing (ord_at_least self other) (ord_at_least other self) }
-    {
-        if self.actor.0 == other.actor.0 {
-            by_number(self.counter, other.counter)
-        } else if self.actor.0 < other.actor.0 {
-            Comparison::Less
-        } else {
-            Comparison::Greater
-        }
+        self.cmp(&other)
     }
 }
 
-// Two counters by size.
-fn by_number(a: u64, b: u64) -> Comparison
-    ensures { means result ≡ standing (leb b a) (leb a b) }
-{
-    if a == b {
-        Comparison::Equal
-    } else if a < b {
-        Comparison::Less
-    } else {
-        Comparison::Greater
+impl From<OrdDot> for Dot {
+    ghost from_gives = { λ d e. e ≡ dot_of d };
+
+    fn from(d: OrdDot) -> Dot {
+        Dot::new(d.actor, d.counter)
+    }
+}
+
+impl From<Dot> for OrdDot {
+    ghost from_gives = { λ d e. e ≡ ord_of d };
+
+    fn from(d: Dot) -> OrdDot {
+        OrdDot {
+            actor: d.actor,
+            counter: d.counter,
+        }
     }
 }

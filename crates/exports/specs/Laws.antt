@@ -16,7 +16,8 @@ use Rattle.layout.specs.Formed.{Formed, EntryFine}
 use Rattle.layout.proofs.FormedFacts.{formed_from}
 use Rattle.layout.proofs.MainFacts.{good_formed}
 use Rattle.image.specs.Image.{clock_call}
-use Rattle.reading.specs.Calls.{contains_call, read_answer}
+use Rattle.reading.specs.Calls.{contains_call}
+use Rattle.dots.specs.Answers.{answer}
 use Rattle.replies.specs.Reply.{fitted}
 use Rattle.exports.specs.Calls.{contains_reply, clock_reply}
 
@@ -26,7 +27,7 @@ module _ (s : List ℕ) (good : good_image s ≡ true) where
 
   -- V, in the image's form
   pub clock_said : (room : ℕ) → clock_reply s room ≡ fitted room 0 (length (encode_clock (image_of s).clock)) (encode_clock (image_of s).clock)
-  unfolding clock_reply clock_call
+  unfolding clock_reply clock_call answer
   clock_said room = rw (good, dots_vclock (image_of s).clock formed.actors_ok)
 
   few_dots : (m : ℕ) → length (entry (image_of s) m) ≤ 16
@@ -38,5 +39,5 @@ module _ (s : List ℕ) (good : good_image s ≡ true) where
 
   -- the member's clock, empty where it isn't there, and 1 or 0 for whether it is
   pub contains_said : (m room : ℕ) → contains_reply s m room ≡ fitted room 0 (pick (is_in (image_of s) m) 1 0) (encode_clock (entry (image_of s) m))
-  unfolding contains_reply contains_call read_answer first_of contains
+  unfolding contains_reply contains_call answer first_of contains
   contains_said m room = rw (good, dots_vclock (entry (image_of s) m) (few_dots m))

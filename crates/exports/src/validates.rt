@@ -8,7 +8,7 @@ use clocks::VClock;
 use dots::{Actor, Dot};
 use operations::Op;
 use replies::{clock_lent, number_of, packed, put_gap, put_spent};
-use validating::Validation;
+use validating::MergeRefused;
 
 // Whether an add under the dot follows what the replica has seen of the actor: 11 where not, and the gap is written where it fits. Refuses 1, 4.
 pub fn gatelichen_validate_add(
@@ -41,14 +41,14 @@ pub fn gatelichen_validate_remove(image: &[u8], clock: &[u8], members: &[u32]) -
 pub fn gatelichen_validate_merge(a: &[u8], b: &[u8], out: &mut [u8]) -> u64
     ensures { Replies (validate_merge_reply a.now b.now (length out.old)) out.old result out.new }
 {
-    let v = validating::validate_merge(a, b);
-    match v {
-        Validation::Valid => packed(0, 0),
-        Validation::BadFirst => packed(1, 0),
-        Validation::BadSecond => packed(2, 0),
-        Validation::DoubleSpent(x) => {
-            put_spent(x, out);
-            packed(12, 0)
+    let Err(refused) = validating::validate_merge(a, b) else {
+        return packed(0, 0);
+    };
+    match refused {
+        MergeRefused::Refused(first) => packed(first.number(), 0),
+        MergeRefused::DoubleSpent(spent) => {
+            put_spent(spent, out);
+            packed(refused.number(), 0)
         }
     }
 }

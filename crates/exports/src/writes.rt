@@ -1,6 +1,8 @@
 // The calls that write a replica.
 ghost use Rattle.std.specs.Prelude.{◌≡◌, ◌+◌, ◌*◌, ◌<◌, length, []};
 ghost use Rattle.dots.specs.Dot.{dot};
+ghost use Rattle.dots.specs.Answers.{number_in};
+ghost use Rattle.results.specs.Call.{length_in};
 ghost use Rattle.clocks.specs.VClock.{vclock};
 ghost use Rattle.operations.specs.Calls.{apply_call, reset_call};
 ghost use Rattle.merging.specs.Merge.{merge_call};
@@ -10,10 +12,9 @@ ghost use Rattle.exports.specs.Calls.{replica_reply};
 ghost use Rattle.replies.specs.Lent.{clock_lent};
 
 use clocks::VClock;
-use dots::{Actor, Dot};
+use dots::{Actor, Dot, Refused};
 use operations::Op;
 use replies::{clock_lent, packed};
-use results::Written;
 
 // Writes the empty replica. Refuses 10.
 pub fn gatelichen_empty(out: &mut [u8]) -> u64
@@ -60,10 +61,13 @@ pub fn gatelichen_reset(image: &[u8], clock: &[u8], out: &mut [u8]) -> u64
     written(merging::reset_remove(image, clock_lent(clock), out))
 }
 
-// What a call that writes a replica answered, as one number.
-fn written(w: Written) -> u64
-    requires { w.len < 4294967296 }
-    ensures { result ≡ w.no * 4294967296 + w.len }
+// What a call answered, a length or a count, as one number.
+pub(crate) fn written(w: Result<usize, Refused>) -> u64
+    requires { length_in w < 4294967296 }
+    ensures { result ≡ number_in w * 4294967296 + length_in w }
 {
-    packed(w.no, w.len as u32)
+    match w {
+        Ok(len) => packed(0, len as u32),
+        Err(refused) => packed(refused.number(), 0),
+    }
 }

@@ -5,7 +5,7 @@ use mathlib.Core.List.{List, [], ◌∷◌, ◌++◌}
 use native.Mathlib.Omega.{arith}
 use native.Mathlib.Numerals.{add-one}
 use lib.ListN.{length, set, take, drop, get_or, length-take, length-append, drop_of_length-le, get_or-eq_default}
-use lib.Seq.{sets, slice-cons, set_out, take_all, length-take-le}
+use lib.Seq.{sets, drop-cons, set_out, take_all, length-take-le}
 use Rattle.tables.specs.Stores.{sets_append}
 use Rattle.tables.specs.Zip.{by_lt}
 use Rattle.dots.specs.declared.Dot.{Dot}
@@ -16,7 +16,8 @@ use Rattle.layout.specs.Fields.{u32_at, le16, le32, le64}
 use Rattle.layout.proofs.FieldsFacts.{length_le32, length_le64}
 use Rattle.layout.specs.Lists.{list_at, bytes_of}
 use Rattle.layout.specs.Clock.{dot_at, dots_at, encode_dot_in, encode_dots, encode_clock, encode_clock_in}
-use Rattle.layout.specs.Rows.{encode_row, encode_row_in}
+use Rattle.layout.specs.Rows.{encode_row, encode_row_in, encode_members}
+use Rattle.layout.proofs.KitFacts.{length_encode_members}
 use Rattle.fields.specs.Read.{clock_read, Put}
 
 pub list_step : {R : Type 0} (here : List ℕ → ℕ → R) (end : List ℕ → ℕ → ℕ) (s : List ℕ) (p k j : ℕ) → k ≡ j + 1
@@ -61,15 +62,15 @@ pub length_dots_at : (s : List ℕ) (p n : ℕ) → length (dots_at s p n) ≡ n
 length_dots_at s p n = length_list dot_at (λ s p. p + 12) s p n
 
 -- a dot is written: what is left to write is one less
-pub store_step : (s : List ℕ) (ds : List Dot) (n p i : ℕ) (d : Dot) → i < n → n ≤ length ds → d ≡ get_or ds i no_dot
-    → sets (sets (sets s p (le32 (actor_of d))) (p + 4) (le64 d.counter)) (p + 12) (encode_dots (drop (i + 1) (take n ds))) ≡ sets s p (encode_dots (drop i (take n ds)))
+pub store_step : (s : List ℕ) (ds : List Dot) (p i : ℕ) (d : Dot) → i < length ds → d ≡ get_or ds i no_dot
+    → sets (sets (sets s p (le32 (actor_of d))) (p + 4) (le64 d.counter)) (p + 12) (encode_dots (drop (i + 1) ds)) ≡ sets s p (encode_dots (drop i ds))
 unfolding bytes_of encode_dot_in
-store_step s ds n p i d h hn e =
-    rw (add-one, slice-cons i n ds no_dot h hn, ← e, sets_append, sets_append, length-append, length_le32, length_le64)
+store_step s ds p i d h e =
+    rw (add-one, drop-cons ds i no_dot h, ← e, sets_append, sets_append, length-append, length_le32, length_le64)
 
-pub store_end : (s : List ℕ) (ds : List Dot) (n p i : ℕ) → n ≤ i → sets s p (encode_dots (drop i (take n ds))) ≡ s
+pub store_end : (s : List ℕ) (ds : List Dot) (p i : ℕ) → length ds ≤ i → sets s p (encode_dots (drop i ds)) ≡ s
 unfolding bytes_of
-store_end s ds n p i h = let e : length (take n ds) ≤ i = simp length-take (omega arith) in rw (drop_of_length-le (take n ds) e)
+store_end s ds p i h = rw (drop_of_length-le ds h)
 
 -- the count and then the dots are the clock
 pub head_step : (s : List ℕ) (at : ℕ) (ds : List Dot) (n : ℕ) → length ds ≡ n → sets (sets s at (le32 n)) (at + 4) (encode_dots ds) ≡ sets s at (encode_clock ds)
@@ -121,3 +122,32 @@ pub contents_are : (s a b c d e f : List ℕ) (total start count wstart wcount :
     → d ≡ sets c 12 (le32 count) → e ≡ sets d 16 (le32 wstart) → f ≡ sets e 20 (le32 wcount) → f ≡ sets s 0 (contents total start count wstart wcount)
 unfolding contents le16 le32
 contents_are s a b c d e f total start count wstart wcount p q r t u v = rw (v, u, t, r, q, p)
+
+-- ---- members after their count
+
+pub member_step : (s ms : List ℕ) (p i : ℕ) → i < length ms
+    → sets (sets s p (le32 (get_or ms i 0))) (p + 4) (encode_members (drop (i + 1) ms)) ≡ sets s p (encode_members (drop i ms))
+unfolding bytes_of
+member_step s ms p i h = rw (add-one, drop-cons ms i 0 h, sets_append, length_le32)
+
+pub member_end : (s ms : List ℕ) (p i : ℕ) → length ms ≤ i → sets s p (encode_members (drop i ms)) ≡ s
+unfolding bytes_of
+member_end s ms p i h = rw (drop_of_length-le ms h)
+
+module _ (ms : List ℕ) where
+  members_long : 4 + 4 * length ms ≡ length (le32 (length ms) ++ encode_members ms)
+  members_long = simp (length-append, length_le32, length_encode_members)
+
+  pub members_none : (s : List ℕ) (at : ℕ) → length s ≤ at → Put s at (le32 (length ms) ++ encode_members ms) s (4 + 4 * length ms)
+  members_none s at past = record { long = members_long; is = sym (sets_past s at (le32 (length ms) ++ encode_members ms) past) }
+
+  pub members_done : (s t : List ℕ) (at : ℕ) → t ≡ sets (sets s at (le32 (length ms))) (at + 4) (encode_members ms) → Put s at (le32 (length ms) ++ encode_members ms) t (4 + 4 * length ms)
+  members_done s t at w = record { long = members_long; is = w ∙ rw (sets_append, length_le32) }
+
+-- ---- members, of which the first 64 are written
+
+pub first_few : (ms : List ℕ) (n : ℕ) → n ≡ min (length ms) 64 → take n ms ≡ take 64 ms
+first_few ms n e = by_lt (length ms) 64 (λ h. let f : n ≡ length ms = omega arith in rw (f, take_all (length ms) ms (omega arith), take_all 64 ms (omega arith))) (λ h. let f : n ≡ 64 = omega arith in rw f)
+
+pub of_few : (ms s : List ℕ) (at : ℕ) (t : List ℕ) (r : ℕ) → length ms ≤ 64 → Put s at (le32 (length (take 64 ms)) ++ encode_members (take 64 ms)) t r → Put s at (le32 (length ms) ++ encode_members ms) t r
+of_few ms s at t r h w = rw (take_all 64 ms h) at w

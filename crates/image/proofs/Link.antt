@@ -7,8 +7,9 @@ use native.Mathlib.Omega.{arith}
 use native.Mathlib.Nat.{add-zero, zero-add}
 use lib.Dec.{leb, ltb, eqb, T, ltb→lt}
 use lib.ListN.{length, take, get_or, replicate, length-map, length-replicate, get_or-replicate, get_or-map}
-use lib.Seq.{sets, get_or-take}
+use lib.Seq.{sets}
 use borrow.Author.Tests.{lt-leb, lt-ltb, ltb-true, eq-eqb, ne_eqb}
+use Rattle.std.specs.Prelude.{Option, Some, None, Ok, Err, ok_or}
 use Rattle.tables.specs.Order.{nat_order, nat_lt, gt_lt}
 use Rattle.tables.specs.Table.{pick, every, All, Asc, Below, Normal, below_trans}
 use Rattle.tables.specs.Zip.{get_none}
@@ -37,13 +38,14 @@ use Rattle.scan.proofs.Tables.{first_laid}
 use Rattle.kills.specs.Lines.{top_line, kill_table, members_of, wait_read, waits_of}
 use Rattle.kills.specs.Laws.{Ordered, top_above, kill_numbers}
 use Rattle.kills.proofs.Steps.{taken}
+use Rattle.kills.proofs.Parts.{members_part, waits_part}
 use Rattle.image.specs.Fits.{within, fits, fit_all, EachInside}
 use Rattle.layout.proofs.MainFacts.{checked}
 use Rattle.image.specs.declared.Image.{Image}
-use Rattle.image.specs.Image.{image_of_bytes, check_image, laid_parts_tests, laid_parts, parts_image, no_image}
+use Rattle.image.specs.Image.{image_of_bytes, check_image, laid_parts_tests, laid_parts, parts_image}
 use Rattle.image.proofs.Steps.{contents_few}
 use Rattle.image.proofs.Rise.{rise, all_rise, rows_are, parts_are}
-use Rattle.image.proofs.Whole.{read_good, picked_true, picked_false}
+use Rattle.image.proofs.Whole.{read_good, then_told, then_untold}
 
 -- ---- one entry
 
@@ -208,8 +210,11 @@ module _ (s : List ℕ) (start n : ℕ) (few : n ≤ 64) where
   unfolding members_of
   ms_are = rw taken_places (members_are s start n)
 
-  each_inside : laid_rows s start 0 n ≡ true → EachInside s (places s start n) n
-  each_inside g = record { each = λ i h. rw (← (get_or-take n (places s start n) i 0 h), taken_places) (place_inside s start 0 n i g h) }
+  length_taken : length (take n (places s start n)) ≡ n
+  length_taken = ap length taken_places ∙ length_starts_at row_end s start n
+
+  each_inside : laid_rows s start 0 n ≡ true → EachInside s (take n (places s start n)) (length (take n (places s start n)))
+  each_inside g = let l = length_taken in record { each = λ i h. rw taken_places (place_inside s start 0 n i g (omega arith)) }
 
 ws_are : (s : List ℕ) (start k : ℕ) → k ≤ 16 → good_waits s start [] k ≡ true → waits_of s (starts s start k) k ≡ waits_at s start k
 unfolding waits_of
@@ -280,13 +285,13 @@ module _ (s : List ℕ) (start n wstart k : ℕ) (few : n ≤ 64) (waits_few : k
       g
 
   -- as the check has it
-  fit_told : (t : List ℕ) → t ≡ kill_table (dots_of (vclock (clock_at s 24))) (members_of s (places s start n) n) (waits_of s (starts s wstart k) k) (replicate 16 0) (replicate 1024 0)
+  fit_told : (t : List ℕ) → t ≡ kill_table (dots_of (vclock (clock_at s 24))) (members_of s (take n (places s start n)) 64) (waits_of s (take k (starts s wstart k)) 16) (replicate 16 0) (replicate 1024 0)
       → fit_all t s (clock_at s 24) true 0 (take n (places s start n)) ≡ every (good_entry R) (rows_at s start n)
-  fit_told t e = rw (e, clock_is, ms_are s start n few, ws_are s wstart k waits_few wg, taken_places s start n few) entries_are
+  fit_told t e = rw (e, clock_is, members_part s (places s start n) n few, waits_part s (starts s wstart k) k waits_few, ms_are s start n few, ws_are s wstart k waits_few wg, taken_places s start n few) entries_are
 
-  above_told : (t : List ℕ) → t ≡ top_line (dots_of (vclock (clock_at s 24))) (waits_of s (starts s wstart k) k)
+  above_told : (t : List ℕ) → t ≡ top_line (dots_of (vclock (clock_at s 24))) (waits_of s (take k (starts s wstart k)) 16)
       → fit_all t s (clock_at s 24) false 0 (take n (places s start n)) ≡ true → every (good_entry R) (rows_at s start n) ≡ true
-  above_told t e g = above_all (rw (e, clock_is, ws_are s wstart k waits_few wg, taken_places s start n few) at g)
+  above_told t e g = above_all (rw (e, clock_is, waits_part s (starts s wstart k) k waits_few, ws_are s wstart k waits_few wg, taken_places s start n few) at g)
 
 -- ---- the whole check
 
@@ -312,15 +317,15 @@ sized s e =
     }
 
 module _ (s : List ℕ) where
-  told : (x : Image) → x ≡ parts_image s → x.good ≡ true → (laid_parts s ≡ true) × (x ≡ image_of_bytes s)
-  unfolding parts_image no_image
-  told x e g = picked_true (λ (y : Image). y.good) (laid_parts s) x (image_of_bytes s) no_image e refl g
+  told : (x : Image) → Some x ≡ parts_image s → (laid_parts s ≡ true) × (x ≡ image_of_bytes s)
+  unfolding parts_image
+  told x e = then_told (laid_parts s) (image_of_bytes s) x e
 
   abbrev Lines : Image → List ℕ → Type 0
-  Lines x t = t ≡ kill_table (dots_of x.clock) (members_of s x.places x.entries) (waits_of s x.starts x.waits) (replicate 16 0) (replicate 1024 0)
+  Lines x t = t ≡ kill_table (dots_of x.clock) (members_of s (take x.entries x.places) 64) (waits_of s (take x.waits x.starts) 16) (replicate 16 0) (replicate 1024 0)
 
   abbrev Top : Image → List ℕ → Type 0
-  Top x t = t ≡ top_line (dots_of x.clock) (waits_of s x.starts x.waits)
+  Top x t = t ≡ top_line (dots_of x.clock) (waits_of s (take x.waits x.starts) 16)
 
   abbrev Fit : Bool → Image → List ℕ → Bool → Type 0
   Fit own x t b = b ≡ fit_all t s (clock_at s 24) own 0 (take x.entries x.places)
@@ -354,57 +359,68 @@ module _ (s : List ℕ) where
   -- what the code may ask of the parts
   pub record Asked (x : Image) : Type 0 where
     pub entries_few : x.entries ≤ 64
+    pub waits_few : x.waits ≤ 16
+    pub places_few : length (take x.entries x.places) ≤ 64
     pub clock_stands : Stands s 24
-    pub inside : EachInside s x.places x.entries
+    pub inside : EachInside s (take x.entries x.places) (length (take x.entries x.places))
 
-  pub asked : (x : Image) → x ≡ parts_image s → x.good ≡ true → Asked x
+  pub asked : (x : Image) → Some x ≡ parts_image s → Asked x
   unfolding image_of_bytes
-  asked x e g =
-      let r = told x e g in
+  asked x e =
+      let r = told x e in
       let z = sized s r.0 in
-      subst (λ (y : Image). Asked y) (sym r.1) (record { entries_few = z.few_entries; clock_stands = stands s 24 z.clock_ok; inside = each_inside s (u32_at s 8) (u32_at s 12) z.few_entries z.laid_ok })
+      subst (λ (y : Image). Asked y) (sym r.1) (record { entries_few = z.few_entries; waits_few = z.few_waits; places_few = rw (length_taken s (u32_at s 8) (u32_at s 12) z.few_entries) z.few_entries; clock_stands = stands s 24 z.clock_ok; inside = each_inside s (u32_at s 8) (u32_at s 12) z.few_entries z.laid_ok })
 
-  module _ (x : Image) (e : x ≡ parts_image s) (g : x.good ≡ true) (t : List ℕ) (b : Bool) where
-    pub check_above : Top x t → Fit false x t b → b ≡ true → x ≡ check_image s
+  module _ (x : Image) (e : Some x ≡ parts_image s) (t : List ℕ) (b : Bool) where
+    pub check_above : Top x t → Fit false x t b → b ≡ true → Some x ≡ check_image s
     unfolding check_image checks_in
     check_above l f y =
-        let r = told x e g in
+        let r = told x e in
         let f' = subst (λ (z : Image). Fit false z t b) r.1 f in
         let h = fit_rises r.0 t b false f' y in
-        r.1 ∙ sym (rw (checked s, parts_are s, r.0, h, entries_above r.0 t b h (subst (λ (z : Image). Top z t) r.1 l) f' y))
+        ap Some r.1 ∙ sym (rw (checked s, parts_are s, r.0, h, entries_above r.0 t b h (subst (λ (z : Image). Top z t) r.1 l) f' y))
 
     module _ (l : Lines x t) (f : Fit true x t b) where
       fit : rises ≡ true → b ≡ every (good_entry (image_of s)) (image_of s).entries
-      fit h = let r = told x e g in entries_told r.0 t b h (subst (λ (y : Image). Lines y t) r.1 l) (subst (λ (y : Image). Fit true y t b) r.1 f)
+      fit h = let r = told x e in entries_told r.0 t b h (subst (λ (y : Image). Lines y t) r.1 l) (subst (λ (y : Image). Fit true y t b) r.1 f)
 
-      pub check_good : b ≡ true → x ≡ check_image s
+      pub check_good : b ≡ true → Some x ≡ check_image s
       unfolding check_image checks_in
       check_good y =
-          let r = told x e g in
+          let r = told x e in
           let h = fit_rises r.0 t b true (subst (λ (y : Image). Fit true y t b) r.1 f) y in
-          r.1 ∙ sym (rw (checked s, parts_are s, r.0, h, sym (fit h) ∙ y))
+          ap Some r.1 ∙ sym (rw (checked s, parts_are s, r.0, h, sym (fit h) ∙ y))
 
-      pub check_unfit : b ≡ false → no_image ≡ check_image s
+      pub check_unfit : b ≡ false → None ≡ check_image s
       unfolding check_image checks_in
       check_unfit y = go rises refl
         where
-          go : (c : Bool) → rises ≡ c → no_image ≡ check_image s
-          go true h = sym (rw (checked s, parts_are s, (told x e g).0, h, sym (fit h) ∙ y))
-          go false h = sym (rw (checked s, parts_are s, (told x e g).0, h))
+          go : (c : Bool) → rises ≡ c → None ≡ check_image s
+          go true h = sym (rw (checked s, parts_are s, (told x e).0, h, sym (fit h) ∙ y))
+          go false h = sym (rw (checked s, parts_are s, (told x e).0, h))
 
-  pub check_bad : (x : Image) → x ≡ parts_image s → x.good ≡ false → no_image ≡ check_image s
-  unfolding check_image checks_in parts_image image_of_bytes
-  check_bad x e g = let r = picked_false (λ (y : Image). y.good) (laid_parts s) x (image_of_bytes s) no_image e refl g in sym (rw (checked s, parts_are s, r))
+  pub check_bad : None ≡ parts_image s → None ≡ check_image s
+  unfolding check_image checks_in parts_image
+  check_bad e = sym (rw (checked s, parts_are s, then_untold (laid_parts s) (image_of_bytes s) e))
 
 -- ---- the calls
 
-pub image_good : (s : List ℕ) (x : Image) → x ≡ check_image s → (b : Bool) → x.good ≡ b → (good_image s ≡ b) × (x ≡ pick b (image_of_bytes s) no_image)
-unfolding check_image image_of_bytes no_image
-image_good s x e b g = go (good_image s) refl e
-  where
-    go : (c : Bool) → good_image s ≡ c → x ≡ pick c (image_of_bytes s) no_image → (good_image s ≡ b) × (x ≡ pick b (image_of_bytes s) no_image)
-    go true f u = let h : true ≡ b = sym (ap (λ (y : Image). y.good) u) ∙ g in (f ∙ h, rw (← h) u)
-    go false f u = let h : false ≡ b = sym (ap (λ (y : Image). y.good) u) ∙ g in (f ∙ h, rw (← h) u)
+pub image_good : (s : List ℕ) (x : Image) → Some x ≡ check_image s → (good_image s ≡ true) × (x ≡ image_of_bytes s)
+unfolding check_image
+image_good s x e = then_told (good_image s) (image_of_bytes s) x e
+
+pub image_bad : (s : List ℕ) → None ≡ check_image s → good_image s ≡ false
+unfolding check_image
+image_bad s e = then_untold (good_image s) (image_of_bytes s) e
+
+-- the same where the call makes a refusal of it
+pub ok_told : {A E : Type 0} (o : Option A) (e : E) (x : A) → Ok x ≡ ok_or o e → Some x ≡ o
+ok_told (Some y) e x h = cc
+ok_told None e x h = absurd (cc)
+
+pub err_told : {A E : Type 0} (o : Option A) (e r : E) → Err r ≡ ok_or o e → (None ≡ o) × (r ≡ e)
+err_told (Some y) e r h = absurd (cc)
+err_told None e r h = (refl, cc)
 
 -- what a caller may go by: the members at the places are the entries', and the waiting removes at the starts are the image's, each in order
 pub record Stood (s : List ℕ) (x : Image) : Type 0 where
@@ -412,10 +428,10 @@ pub record Stood (s : List ℕ) (x : Image) : Type 0 where
   pub waits_stood : waits_of s x.starts x.waits ≡ (image_of s).waiting
   pub waits_in_order : All Ordered (image_of s).waiting
 
-pub stood : (s : List ℕ) (x : Image) → x ≡ check_image s → x.good ≡ true → Stood s x
+pub stood : (s : List ℕ) (x : Image) → Some x ≡ check_image s → Stood s x
 unfolding image_of_bytes image_in
-stood s x e g =
-    let t = image_good s x e true g in
+stood s x e =
+    let t = image_good s x e in
     let h = passed s t.0 in
     let y : x ≡ image_of_bytes s = t.1 in
     record {

@@ -1,27 +1,26 @@
 -- One turn of the walk of an entry's clock along v, and of the loop over entries; the tests of the contents.
-use Prim.Native.Nat.{ℕ, suc, ◌+◌, ◌-◌, ◌*◌, ◌≤◌, ◌<◌}
+use Prim.Native.Nat.{ℕ, zero, suc, ◌+◌, ◌-◌, ◌*◌, ◌≤◌, ◌<◌}
 use mathlib.Core.Path.{◌≡◌, refl, sym, ◌∙◌}
 use mathlib.Core.Bool.{Bool, true, false, ◌&&◌, and-false}
 use mathlib.Core.List.{List, [], ◌∷◌}
 use native.Mathlib.Omega.{arith}
-use native.Mathlib.Nat.{add-zero, sub-zero}
 use native.Mathlib.Numerals.{add-one}
 use lib.Dec.{leb, eqb}
-use lib.ListN.{length, get_or}
-use lib.Seq.{slice}
+use lib.ListN.{length, get_or, drop, drop_of_length-le}
+use lib.Seq.{drop-cons}
 use borrow.Author.Tests.{le-leb, lt-leb, lt-ltb, le-ltb, eq-eqb, ne_eqb, leb-true}
 use Rattle.tables.specs.Table.{pick}
-use Rattle.tables.specs.Zip.{by_lt}
 use Rattle.dots.specs.declared.Dot.{Dot}
 use Rattle.dots.specs.Dot.{actor_of}
 use Rattle.dots.specs.Clock.{Clock}
 use Rattle.dots.specs.Rising.{both_left, both_right}
-use Rattle.clocks.proofs.Steps.{ahead, done}
 use Rattle.layout.specs.Fields.{u16_at, u32_at, u64_at}
 use Rattle.layout.specs.Clock.{dot_in, dot_at, dots_at, clock_at}
 use Rattle.layout.proofs.Form.{length_list_at}
 use Rattle.layout.specs.Good.{good_contents_in, good_contents}
 use Rattle.fields.proofs.Steps.{list_step, list_end}
+use Rattle.image.specs.declared.Meeting.{Meeting}
+use Rattle.image.specs.declared.Meeting.TheVariants.{Another, Within, Outside}
 use Rattle.image.specs.Fits.{within, met_of, fits, line_for, fit_all}
 
 -- ---- the contents
@@ -68,41 +67,41 @@ module _ (s : List ℕ) where
 -- ---- one dot
 
 module _ (s : List ℕ) (p q line : ℕ) where
-  pub met_other : (u32_at s p ≡ u32_at s q → ⊥) → ◌≡◌ {A = ℕ} 0 (met_of (dot_at s p) (dot_at s q) line)
+  pub met_other : (u32_at s p ≡ u32_at s q → ⊥) → Another ≡ met_of (dot_at s p) (dot_at s q) line
   unfolding met_of dot_in
   met_other n = rw (ne_eqb (u32_at s p) (u32_at s q) n)
 
   module _ (e : u32_at s p ≡ u32_at s q) where
-    pub met_above : u64_at s (q + 4) < u64_at s (p + 4) → ◌≡◌ {A = ℕ} 2 (met_of (dot_at s p) (dot_at s q) line)
+    pub met_above : u64_at s (q + 4) < u64_at s (p + 4) → Outside ≡ met_of (dot_at s p) (dot_at s q) line
     unfolding met_of dot_in
     met_above h = rw (eq-eqb (u32_at s p) (u32_at s q) e, lt-leb (u64_at s (p + 4)) (u64_at s (q + 4)) h)
 
     module _ (h : u64_at s (p + 4) ≤ u64_at s (q + 4)) where
-      pub met_under : u64_at s (p + 4) ≤ line → ◌≡◌ {A = ℕ} 2 (met_of (dot_at s p) (dot_at s q) line)
+      pub met_under : u64_at s (p + 4) ≤ line → Outside ≡ met_of (dot_at s p) (dot_at s q) line
       unfolding met_of dot_in
       met_under l = rw (eq-eqb (u32_at s p) (u32_at s q) e, le-leb (u64_at s (p + 4)) (u64_at s (q + 4)) h, le-ltb line (u64_at s (p + 4)) l)
 
-      pub met_within : line < u64_at s (p + 4) → ◌≡◌ {A = ℕ} 1 (met_of (dot_at s p) (dot_at s q) line)
+      pub met_within : line < u64_at s (p + 4) → Within ≡ met_of (dot_at s p) (dot_at s q) line
       unfolding met_of dot_in
       met_within l = rw (eq-eqb (u32_at s p) (u32_at s q) e, le-leb (u64_at s (p + 4)) (u64_at s (q + 4)) h, lt-ltb line (u64_at s (p + 4)) l)
 
 -- ---- a turn along v
 
-module _ (t : List ℕ) (q : ℕ) (x : Dot) (v : Clock) (d : Dot) (ds : Clock) (one : ℕ) where
+module _ (t : List ℕ) (q : ℕ) (x : Dot) (v : Clock) (d : Dot) (ds : Clock) (one : Meeting) where
   -- what each answer says
   record Turn : Type 0 where
-    other : one ≡ 0 → fits t (suc q) v (d ∷ ds) ≡ fits t q (x ∷ v) (d ∷ ds)
-    taken : one ≡ 1 → fits t (suc q) v ds ≡ fits t q (x ∷ v) (d ∷ ds)
-    refused : one ≡ 2 → false ≡ fits t q (x ∷ v) (d ∷ ds)
+    other : one ≡ Another → fits t (suc q) v (d ∷ ds) ≡ fits t q (x ∷ v) (d ∷ ds)
+    taken : one ≡ Within → fits t (suc q) v ds ≡ fits t q (x ∷ v) (d ∷ ds)
+    refused : one ≡ Outside → false ≡ fits t q (x ∷ v) (d ∷ ds)
 
   turn : one ≡ met_of d x (get_or t q 0) → Turn
   unfolding fits met_of
   turn e = go (eqb (actor_of d) (actor_of x)) refl (within d.counter x (get_or t q 0)) refl
     where
       go : (a : Bool) → eqb (actor_of d) (actor_of x) ≡ a → (w : Bool) → within d.counter x (get_or t q 0) ≡ w → Turn
-      go true f true g = let k : one ≡ 1 = e ∙ rw (f, g) in record { other = λ z. absurd (omega arith); taken = λ z. rw (f, g); refused = λ z. absurd (omega arith) }
-      go true f false g = let k : one ≡ 2 = e ∙ rw (f, g) in record { other = λ z. absurd (omega arith); taken = λ z. absurd (omega arith); refused = λ z. rw (f, g) }
-      go false f w g = let k : one ≡ 0 = e ∙ rw f in record { other = λ z. rw f; taken = λ z. absurd (omega arith); refused = λ z. absurd (omega arith) }
+      go true f true g = let k : one ≡ Within = e ∙ rw (f, g) in record { other = λ z. absurd (cc); taken = λ z. rw (f, g); refused = λ z. absurd (cc) }
+      go true f false g = let k : one ≡ Outside = e ∙ rw (f, g) in record { other = λ z. absurd (cc); taken = λ z. absurd (cc); refused = λ z. rw (f, g) }
+      go false f w g = let k : one ≡ Another = e ∙ rw f in record { other = λ z. rw f; taken = λ z. absurd (cc); refused = λ z. absurd (cc) }
 
 -- more dots than v has do not fit
 too_many : (t : List ℕ) (q : ℕ) (v ds : Clock) → length v < length ds → fits t q v ds ≡ false
@@ -129,10 +128,11 @@ module _ (t s : List ℕ) (line k : ℕ) where
       go [] = refl
       go (x ∷ v) = refl
 
-  pub row_left : (j p left : ℕ) → k ≤ j → 0 < left → false ≡ row_ahead j p left
-  row_left j p left h l = sym (too_many t (line + j) (dots_at s (28 + 12 * j) (k - j)) (dots_at s p left) (simp length_list_at (omega arith)))
+  pub row_done : (j p left : ℕ) → k ≤ j → eqb left 0 ≡ row_ahead j p left
+  row_done j p zero h = row_end_is j p 0 (omega arith)
+  row_done j p (suc left) h = ne_eqb (suc left) 0 (λ z. omega arith) ∙ sym (too_many t (line + j) (dots_at s (28 + 12 * j) (k - j)) (dots_at s p (suc left)) (simp length_list_at (omega arith)))
 
-  module _ (j p left one : ℕ) (h : j < k) (l : 0 < left) (e : one ≡ met_of (dot_at s p) (dot_at s (28 + 12 * j)) (get_or t (line + j) 0)) (two : one ≤ 2) where
+  module _ (j p left : ℕ) (one : Meeting) (h : j < k) (l : 0 < left) (e : one ≡ met_of (dot_at s p) (dot_at s (28 + 12 * j)) (get_or t (line + j) 0)) where
     abbrev x : Dot
     x = dot_at s (28 + 12 * j)
 
@@ -160,26 +160,23 @@ module _ (t s : List ℕ) (line k : ℕ) where
     turned : Turn t (line + j) x v d ds one
     turned = turn t (line + j) x v d ds one e
 
-    pub row_refused : one ≡ 2 → false ≡ row_ahead j p left
+    pub row_refused : one ≡ Outside → false ≡ row_ahead j p left
     row_refused y = turned.refused y ∙ sym here
 
-    pub row_taken : one ≡ 1 → row_ahead (j + 1) (p + 12) (left - 1) ≡ row_ahead j p left
+    pub row_taken : one ≡ Within → row_ahead (j + 1) (p + 12) (left - 1) ≡ row_ahead j p left
     row_taken y = rw next_line (turned.taken y) ∙ sym here
 
-    row_other : one ≡ 0 → row_ahead (j + 1) p left ≡ row_ahead j p left
+    pub row_other : one ≡ Another → row_ahead (j + 1) p left ≡ row_ahead j p left
     row_other y = rw (next_line, row_first) (turned.other y) ∙ sym here
 
-    -- one dot on, where it was within; none, where it is of another actor
-    pub row_turn : (one ≡ 2 → ⊥) → row_ahead (j + 1) (p + 12 * one) (left - one) ≡ row_ahead j p left
-    row_turn y = by_lt 0 one
-        (λ h. let f : one ≡ 1 = omega arith in rw f (row_taken f))
-        (λ h. let f : one ≡ 0 = omega arith in rw f (rw (add-zero p, sub-zero left) (row_other f)))
-
     -- as many dots as the clock has: one that is not taken is left over
-    pub row_out : k - j ≤ left → (one ≡ 1 → ⊥) → false ≡ row_ahead j p left
-    row_out m y = by_lt 0 one
-        (λ h. row_refused (omega arith))
-        (λ h. sym (too_many t (line + (j + 1)) v (dots_at s p left) (simp length_list_at (omega arith))) ∙ row_other (omega arith))
+    pub row_out : k - j ≤ left → (one ≡ Within → ⊥) → false ≡ row_ahead j p left
+    row_out m y = go one refl
+      where
+        go : (o : Meeting) → one ≡ o → false ≡ row_ahead j p left
+        go Another f = sym (too_many t (line + (j + 1)) v (dots_at s p left) (simp length_list_at (omega arith))) ∙ row_other f
+        go Within f = absurd (y f)
+        go Outside f = row_refused f
 
 -- ---- a turn over the entries
 
@@ -187,17 +184,17 @@ pub line_room : (own : Bool) (i q n : ℕ) → i < 64 → q ≡ line_for own i �
 line_room true i q n h e k = omega arith
 line_room false i q n h e k = omega arith
 
-module _ (t s : List ℕ) (v : Clock) (places : List ℕ) (n i p : ℕ) (h : i < n) (k : n ≤ length places) (e : p ≡ get_or places i 0) (b : Bool) (own : Bool) (q : ℕ) (g : q ≡ line_for own i) (f : b ≡ fits t q v (clock_at s (p + 4))) where
-  turn_all : fit_all t s v own i (slice i n places) ≡ (fits t (line_for own i) v (clock_at s (p + 4)) && fit_all t s v own (i + 1) (slice (i + 1) n places))
+module _ (t s : List ℕ) (v : Clock) (places : List ℕ) (i p : ℕ) (h : i < length places) (e : p ≡ get_or places i 0) (b : Bool) (own : Bool) (q : ℕ) (g : q ≡ line_for own i) (f : b ≡ fits t q v (clock_at s (p + 4))) where
+  turn_all : fit_all t s v own i (drop i places) ≡ (fits t (line_for own i) v (clock_at s (p + 4)) && fit_all t s v own (i + 1) (drop (i + 1) places))
   unfolding fit_all
-  turn_all = rw (ahead places i n 0 h k, ← e, add-one i)
+  turn_all = rw (drop-cons places i 0, add-one i, ← e)
 
-  pub all_turn : b ≡ true → fit_all t s v own (i + 1) (slice (i + 1) n places) ≡ fit_all t s v own i (slice i n places)
+  pub all_turn : b ≡ true → fit_all t s v own (i + 1) (drop (i + 1) places) ≡ fit_all t s v own i (drop i places)
   all_turn y = sym (turn_all ∙ rw (← g, sym f ∙ y))
 
-  pub all_stop : b ≡ false → false ≡ fit_all t s v own i (slice i n places)
+  pub all_stop : b ≡ false → false ≡ fit_all t s v own i (drop i places)
   all_stop y = sym (turn_all ∙ rw (← g, sym f ∙ y))
 
-pub all_end : (t s : List ℕ) (v : Clock) (own : Bool) (places : List ℕ) (n i : ℕ) → n ≤ i → true ≡ fit_all t s v own i (slice i n places)
+pub all_end : (t s : List ℕ) (v : Clock) (own : Bool) (places : List ℕ) (i : ℕ) → length places ≤ i → true ≡ fit_all t s v own i (drop i places)
 unfolding fit_all
-all_end t s v own places n i h = rw (done places i n h)
+all_end t s v own places i h = rw (drop_of_length-le places h)

@@ -6,14 +6,16 @@ use Rattle.dots.specs.Dot.{actor_of}
 use Rattle.dots.specs.Clock.{Clock}
 use Rattle.layout.specs.Clock.{clock_at}
 use Rattle.layout.specs.Rows.{row_end}
+use Rattle.image.specs.declared.Meeting.{Meeting}
+use Rattle.image.specs.declared.Meeting.TheVariants.{Another, Within, Outside}
 
 -- a counter that d covers, above the line
 abbrev pub within : ℕ → Dot → ℕ → Bool
 within c d line = leb c d.counter && ltb line c
 
 -- a dot against a dot of v and its number of the line: of another actor, within, or not
-unfoldable pub met_of : Dot → Dot → ℕ → ℕ
-met_of d x line = pick (eqb (actor_of d) (actor_of x)) (pick (within d.counter x line) 1 2) 0
+unfoldable pub met_of : Dot → Dot → ℕ → Meeting
+met_of d x line = pick (eqb (actor_of d) (actor_of x)) (pick (within d.counter x line) Within Outside) Another
 
 -- each dot of a clock is one of v's actors, and within; number q of the table is the line's for the first actor
 unfoldable pub fits : List ℕ → ℕ → Clock → Clock → Bool

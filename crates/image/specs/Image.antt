@@ -1,7 +1,11 @@
 -- What the check of an image answers: "the lent image is exactly its total length", and all of well-formed.
-use Rattle.std.specs.Prelude.{ℕ, Bool, true, false, List, [], ◌∷◌, eqb, length, replicate}
+use Rattle.std.specs.Prelude.{ℕ, Bool, List, [], ◌∷◌, Option, Result, ⊤, eqb, length, replicate}
+use Rattle.std.specs.Bool.{then_some}
 use Rattle.std.proofs.lemmas.List.Edits.{sets}
 use Rattle.tables.specs.Table.{pick}
+use Rattle.dots.specs.declared.refusals.Refused.{Refused}
+use Rattle.dots.specs.Answers.{answer}
+use Rattle.clocks.specs.declared.VClock.{VClock}
 use Rattle.clocks.specs.VClock.{vclock}
 use Rattle.layout.specs.Clock.{clock_end}
 use Rattle.layout.specs.Rows.{places_at, rows_end_at, wait_places_at, waits_end_at}
@@ -9,16 +13,10 @@ use Rattle.layout.specs.Image.{entries_start, entries_count, waits_start_at, wai
 use Rattle.layout.specs.Good.{chain, good_contents, good_clock, good_waits}
 use Rattle.scan.specs.Scan.{laid_rows}
 use Rattle.image.specs.declared.Image.{Image}
-use Rattle.image.specs.declared.ClockAnswer.{ClockAnswer}
-
--- "A refusal .. carries empty clocks, `false` .. and zeros"
-unfoldable pub no_image : Image
-no_image = record { good = false; clock = vclock []; entries = 0; places = replicate 64 0; waits = 0; starts = replicate 16 0 }
 
 -- the clock, how many entries and waiting removes there are, and where each stands
 unfoldable pub image_of_bytes : List ℕ → Image
 image_of_bytes s = record {
-  good = true;
   clock = vclock (image_of s).clock;
   entries = entries_count s;
   places = sets (replicate 64 0) 0 (places_at s (entries_start s) (entries_count s));
@@ -26,8 +24,8 @@ image_of_bytes s = record {
   starts = sets (replicate 16 0) 0 (wait_places_at s (waits_start_at s) (waits_count s));
 }
 
-unfoldable pub check_image : List ℕ → Image
-check_image s = pick (good_image s) (image_of_bytes s) no_image
+unfoldable pub check_image : List ℕ → Option Image
+check_image s = then_some (good_image s) (image_of_bytes s)
 
 -- the parts alone, one after the other up to the end, without what entries owe to the clock, which they rise by, and to the waiting removes
 abbrev pub laid_parts_tests : List ℕ → List Bool
@@ -38,14 +36,14 @@ laid_parts_tests s =
 unfoldable pub laid_parts : List ℕ → Bool
 laid_parts s = chain (laid_parts_tests s) (eqb (waits_end_at s (waits_start_at s) (waits_count s)) (length s))
 
-unfoldable pub parts_image : List ℕ → Image
-parts_image s = pick (laid_parts s) (image_of_bytes s) no_image
+unfoldable pub parts_image : List ℕ → Option Image
+parts_image s = then_some (laid_parts s) (image_of_bytes s)
 
 -- ---- the calls
 
 -- "1: the first replica isn't a well-formed image"
-unfoldable pub check_call : List ℕ → ℕ
-check_call s = pick (good_image s) 0 1
+unfoldable pub check_call : List ℕ → Result ⊤ Refused
+check_call s = answer (pick (good_image s) 0 1) tt
 
-unfoldable pub clock_call : List ℕ → ClockAnswer
-clock_call s = pick (good_image s) (record { no = 0; clock = vclock (image_of s).clock }) (record { no = 1; clock = vclock [] })
+unfoldable pub clock_call : List ℕ → Result VClock Refused
+clock_call s = answer (pick (good_image s) 0 1) (vclock (image_of s).clock)

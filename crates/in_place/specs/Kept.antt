@@ -1,9 +1,14 @@
 -- "a clock the caller holds is brought forward in place by one dot or by another clock"; "A refusal changes no lent memory".
-use Rattle.std.specs.Prelude.{eqb}
-use Rattle.tables.specs.Table.{pick}
+use Rattle.std.specs.Prelude.{Result, Ok, Err, ⊤}
+use Rattle.dots.specs.declared.refusals.Refused.{Refused}
 use Rattle.clocks.specs.declared.VClock.{VClock}
-use Rattle.clocks.specs.declared.ClockAnswer.{ClockAnswer}
 
 -- what the record holds after a call with that answer
-unfoldable pub kept : VClock → ClockAnswer → VClock
-kept c a = pick (eqb a.no 0) a.clock c
+abbrev pub kept : VClock → Result VClock Refused → VClock
+kept c (Ok k) = k
+kept c (Err r) = c
+
+-- and what the call in place says: done, or the same refusal
+abbrev pub done : Result VClock Refused → Result ⊤ Refused
+done (Ok k) = Ok tt
+done (Err r) = Err r

@@ -2,21 +2,23 @@
 use Prim.Native.Nat.{ℕ, zero, suc, ◌+◌, ◌-◌, ◌*◌, ◌≤◌, ◌<◌, max, min}
 use mathlib.Core.Path.{◌≡◌, refl, sym, ap, ap₂, ◌∙◌}
 use mathlib.Core.Bool.{Bool, true, false}
-use mathlib.Core.List.{List, [], ◌∷◌, map}
+use mathlib.Core.List.{List, [], ◌∷◌, ◌++◌, map}
 use native.Mathlib.Omega.{arith}
 use native.Mathlib.Nat.{add-zero, zero-add, add_assoc, zero-max}
 use native.Mathlib.Numerals.{add-one}
+use borrow.Rule.Slice.PartMut.{put_mid}
 use lib.Dec.{eqb}
-use lib.ListN.{length, take, drop, set, get_or, replicate, drop_of_length-le, get_or-eq_default}
-use lib.Seq.{get_or-set_same, get_or-set_other, sets, slice, sets-eq, length-sets, take_all, take_at}
+use lib.ListN.{length, take, drop, set, get_or, replicate, length-take, length-drop, drop_of_length-le, get_or-eq_default, get_or-append}
+use lib.Seq.{get_or-set_other, sets, sets-eq, length-sets, take_all, take_at, take-suc, take-suc-set, drop-cons}
 use borrow.Author.Tests.{lt-ltb, le-ltb, eq-eqb, ne_eqb}
+use Rattle.std.proofs.lemmas.List.{map-append, get_or-append_right, get_or-drop, get_or-take}
+use Rattle.std.proofs.lemmas.Slice.{put_mid-paste}
 use Rattle.tables.specs.Stores.{sets_append}
 use Rattle.tables.specs.Table.{pick}
 use Rattle.tables.specs.Zip.{Rows, said, by_lt}
 use Rattle.dots.specs.declared.Dot.{Dot}
 use Rattle.dots.specs.Dot.{dots, dot, actor_of}
 use Rattle.dots.specs.Clock.{Clock}
-use Rattle.clocks.proofs.Steps.{ahead, done, rest}
 use Rattle.replica.specs.Replica.{member_rows}
 use Rattle.layout.specs.Fields.{u32_at, u64_at}
 use Rattle.layout.specs.Clock.{dot_in, dot_at, dots_at, clock_end, clock_end_in}
@@ -24,30 +26,28 @@ use Rattle.layout.specs.Rows.{members_at}
 use Rattle.fields.specs.Read.{clock_read}
 use Rattle.fields.proofs.Steps.{list_step, list_end}
 use Rattle.kills.specs.Lines.{reach, along, line_of, raise_from, raised, top_from, spread, kill_lines, wait_read}
-use Rattle.kills.specs.Posts.{Filled, Padded, numbers_by, lines_by, UpTo, Founded}
+use Rattle.kills.specs.Posts.{Padded, numbers_by, lines_by, UpTo, Founded}
 use Rattle.kills.specs.Laws.{length_along, raise_grows, length_raised, sets_cons, spread_front}
 
 -- ---- a padded copy
-
-pub filled_turn : (t : List ℕ) (from i : ℕ) (copy : List ℕ) → i < length copy → Filled t from i copy → Filled t from (i + 1) (set copy i (get_or t (from + i) 0))
-filled_turn t from i copy h f = record {
-  low = λ j l. by_lt j i (λ k. get_or-set_other copy i j (get_or t (from + i) 0) 0 (λ e. omega arith) ∙ f.low j k) (λ k. let e : j ≡ i = omega arith in rw e (get_or-set_same copy i (get_or t (from + i) 0) 0 h));
-  high = λ j l. get_or-set_other copy i j (get_or t (from + i) 0) 0 (λ e. omega arith) ∙ f.high j (omega arith);
-}
 
 zeros : (n j : ℕ) → ◌≡◌ {A = ℕ} (get_or (replicate n 0) j 0) 0
 zeros zero j = refl
 zeros (suc n) zero = refl
 zeros (suc n) (suc j) = zeros n j
 
-pub filled_start : (t : List ℕ) (from n : ℕ) → Filled t from 0 (replicate n 0)
-filled_start t from n = record { low = λ j l. absurd (omega arith); high = λ j l. zeros n j }
+pub padded_part : (t mid z : List ℕ) (from n : ℕ) → n ≡ min (length t - from) 192 → mid ≡ take (from + n - from) (drop from t) → z ≡ replicate 192 0 → Padded t from (mid ++ drop n z)
+padded_part t mid z from n e m r =
+    let y : from + n - from ≡ n = omega arith in
+    let l : length mid ≡ n = rw (m, y) (simp (length-take, length-drop) (omega arith)) in
+    record {
+      same = λ j h. by_lt j n
+          (λ k. get_or-append mid (drop n z) 0 j (omega arith) ∙ rw (m, y) (get_or-take n (drop from t) j 0 k ∙ get_or-drop from t j 0))
+          (λ k. get_or-append_right mid (drop n z) n j 0 l k ∙ get_or-drop n z (j - n) 0 ∙ rw r (zeros 192 (n + (j - n))) ∙ sym (get_or-eq_default t 0 (omega arith)));
+    }
 
-past : (t : List ℕ) (j : ℕ) → length t ≤ j → get_or t j 0 ≡ 0
-past t j h = get_or-eq_default t 0 h
-
-pub filled_short : (t : List ℕ) (from i : ℕ) (copy : List ℕ) → length t ≤ from + i → Filled t from i copy → Padded t from copy
-filled_short t from i copy h f = record { same = λ j l. by_lt j i (λ k. f.low j k) (λ k. f.high j k ∙ sym (past t (from + j) (omega arith))) }
+pub padded_none : (t z : List ℕ) (from : ℕ) → length t ≤ from → z ≡ replicate 192 0 → Padded t from z
+padded_none t z from h r = record { same = λ j k. rw r (zeros 192 j) ∙ sym (get_or-eq_default t 0 (omega arith)) }
 
 module _ (t : List ℕ) (from : ℕ) (copy : List ℕ) (same : (j : ℕ) → j < 192 → get_or copy j 0 ≡ get_or t (from + j) 0) where
   padded_u32 : (k : ℕ) → k + 4 ≤ 192 → u32_at copy k ≡ u32_at t (from + k)
@@ -119,7 +119,7 @@ set_same (y ∷ t) (suc p) x h = ap (λ (l : List ℕ). y ∷ l) (set_same t p x
 pub raise_turn : (out line : List ℕ) (p q j : ℕ) → j < length line → q ≡ p + 1
     → raise_from (set out p (max (get_or out p 0) (get_or line j 0))) q (drop (j + 1) line) ≡ raise_from out p (drop j line)
 unfolding raise_from
-raise_turn out line p q j h e = rw (rest line j 0 h, e, add-one p)
+raise_turn out line p q j h e = rw (drop-cons line j 0 h, e, add-one p, add-one j)
 
 pub raise_end : (out line : List ℕ) (p j : ℕ) → length line ≤ j → raise_from out p (drop j line) ≡ out
 unfolding raise_from
@@ -127,49 +127,62 @@ raise_end out line p j h = let e = drop_of_length-le line {i = j} h in rw e
 
 -- ---- one walk along keys and rows
 
-module _ (N : Rows) (ks : List ℕ) (n i : ℕ) (r : N.Row) (rs : List N.Row) where
-  along_turn : i < n → n ≤ length ks → get_or ks i 0 ≤ N.key r → along N (slice i n ks) (r ∷ rs) ≡ said N (get_or ks i 0) (r ∷ rs) ∷ along N (slice (i + 1) n ks) (r ∷ rs)
-  along_turn h k q = rw (ahead ks i n 0 h k, le-ltb (N.key r) (get_or ks i 0) q)
+module _ (N : Rows) (ks : List ℕ) (i : ℕ) (r : N.Row) (rs : List N.Row) where
+  along_turn : i < length ks → get_or ks i 0 ≤ N.key r → along N (drop i ks) (r ∷ rs) ≡ said N (get_or ks i 0) (r ∷ rs) ∷ along N (drop (i + 1) ks) (r ∷ rs)
+  along_turn h q = rw (drop-cons ks i 0 h, add-one i, le-ltb (N.key r) (get_or ks i 0) q)
 
-  pub along_stop : i < n → n ≤ length ks → N.key r < get_or ks i 0 → along N (slice i n ks) rs ≡ along N (slice i n ks) (r ∷ rs)
-  along_stop h k q = rw (ahead ks i n 0 h k, lt-ltb (N.key r) (get_or ks i 0) q)
+  pub along_stop : i < length ks → N.key r < get_or ks i 0 → along N (drop i ks) rs ≡ along N (drop i ks) (r ∷ rs)
+  along_stop h q = rw (drop-cons ks i 0 h, lt-ltb (N.key r) (get_or ks i 0) q)
 
-  pub along_end : n ≤ i → along N (slice i n ks) rs ≡ along N (slice i n ks) (r ∷ rs)
-  along_end h = rw (done ks i n h)
+-- nothing is raised past the last key
+module _ (ks line out : List ℕ) (i : ℕ) (h : length ks ≤ i) where
+  pub number_end : (d : Dot) (ds : List Dot) → numbers_by ks line (length ks) ds ≡ numbers_by ks line i (d ∷ ds)
+  unfolding raise_from
+  number_end d ds = let e : drop i ks ≡ [] = drop_of_length-le ks {i = i} h in let f : drop (length ks) ks ≡ [] = drop_of_length-le ks {i = length ks} (omega arith) in rw (e, f)
+
+  pub same_end : (m : ℕ) (rs : List ℕ) → lines_by ks line out (length ks) rs ≡ lines_by ks line out i (m ∷ rs)
+  unfolding raised
+  same_end m rs = let e : drop i ks ≡ [] = drop_of_length-le ks {i = i} h in let f : drop (length ks) ks ≡ [] = drop_of_length-le ks {i = length ks} (omega arith) in rw (e, f)
 
 -- ---- the lines of one member
 
-pub same_turn : (ms line out out' rs : List ℕ) (n i m : ℕ) → i < n → n ≤ length ms → get_or ms i 0 ≤ m → out' ≡ pick (eqb m (get_or ms i 0)) (raise_from out (16 * i) line) out
-    → lines_by ms n line out' (i + 1) (m ∷ rs) ≡ lines_by ms n line out i (m ∷ rs)
+flag : (b : Bool) → pick b true false ≡ b
+flag true = refl
+flag false = refl
+
+pub same_turn : (ms line out out' rs : List ℕ) (i m : ℕ) → i < length ms → get_or ms i 0 ≤ m → out' ≡ pick (eqb m (get_or ms i 0)) (raise_from out (16 * i) line) out
+    → lines_by ms line out' (i + 1) (m ∷ rs) ≡ lines_by ms line out i (m ∷ rs)
 unfolding raised
-same_turn ms line out out' rs n i m h k q w = rw (along_turn member_rows ms n i m rs h k q, flag (eqb m (get_or ms i 0)), w, add-one)
-  where
-    flag : (b : Bool) → pick b true false ≡ b
-    flag true = refl
-    flag false = refl
+same_turn ms line out out' rs i m h q w = rw (along_turn member_rows ms i m rs h q, flag (eqb m (get_or ms i 0)), w, add-one)
+
+pub line_met : (out line : List ℕ) (i m k : ℕ) → m ≡ k → raise_from out (16 * i) line ≡ pick (eqb m k) (raise_from out (16 * i) line) out
+line_met out line i m k e = rw (eq-eqb m k e)
+
+pub line_kept : (out line : List ℕ) (i m k : ℕ) → (m ≡ k → ⊥) → out ≡ pick (eqb m k) (raise_from out (16 * i) line) out
+line_kept out line i m k e = rw (ne_eqb m k e)
 
 -- ---- the lines of all members that stand from a place on
 
-pub named_turn : (t ms out out' line : List ℕ) (n i r p left m : ℕ) → 0 < left → m ≡ u32_at t p → UpTo member_rows (lines_by ms n line) m i out r out'
-    → lines_by ms n line out' r (members_at t (p + 4) (left - 1)) ≡ lines_by ms n line out i (members_at t p left)
-named_turn t ms out out' line n i r p left m h e u =
-    let f : members_at t p left ≡ m ∷ members_at t (p + 4) (left - 1) = rw e (list_step u32_at (λ s p. p + 4) t p left (left - 1) (omega arith)) in
-    rw f (u.same (members_at t (p + 4) (left - 1)))
+pub named_turn : (t ms out out' line : List ℕ) (i r p q left j m : ℕ) → left ≡ j + 1 → q ≡ p + 4 → m ≡ u32_at t p → UpTo member_rows (lines_by ms line) m i out r out'
+    → lines_by ms line out' r (members_at t q j) ≡ lines_by ms line out i (members_at t p left)
+named_turn t ms out out' line i r p q left j m h k e u =
+    let f : members_at t p left ≡ m ∷ members_at t q j = rw (e, k) (list_step u32_at (λ s p. p + 4) t p left j h) in
+    rw f (u.same (members_at t q j))
 
 none_raised : (out line : List ℕ) (i : ℕ) (ks : List ℕ) → raised out i (along member_rows ks []) line ≡ out
 unfolding raised
 none_raised out line i [] = refl
 none_raised out line i (k ∷ ks) = none_raised out line (suc i) ks
 
-pub named_end : (t ms out line : List ℕ) (n i p left : ℕ) → left ≤ 0 → lines_by ms n line out i (members_at t p left) ≡ out
-named_end t ms out line n i p left h = rw (list_end u32_at (λ s p. p + 4) t p left h) (none_raised out line i (slice i n ms))
+pub named_end : (t ms out line : List ℕ) (i p left : ℕ) → left ≤ 0 → lines_by ms line out i (members_at t p left) ≡ out
+named_end t ms out line i p left h = rw (list_end u32_at (λ s p. p + 4) t p left h) (none_raised out line i (drop i ms))
 
 -- ---- the numbers of one actor
 
-pub number_turn : (actors line line' : List ℕ) (ds : List Dot) (n i a x : ℕ) → i < n → n ≤ length actors → get_or actors i 0 ≤ a
-    → line' ≡ set line i (max (get_or line i 0) (pick (eqb a (get_or actors i 0)) x 0)) → numbers_by actors n line' (i + 1) (dot a x ∷ ds) ≡ numbers_by actors n line i (dot a x ∷ ds)
+pub number_turn : (actors line line' : List ℕ) (ds : List Dot) (i a x : ℕ) → i < length actors → get_or actors i 0 ≤ a
+    → line' ≡ set line i (max (get_or line i 0) (pick (eqb a (get_or actors i 0)) x 0)) → numbers_by actors line' (i + 1) (dot a x ∷ ds) ≡ numbers_by actors line i (dot a x ∷ ds)
 unfolding raise_from
-number_turn actors line line' ds n i a x h k q w = rw (along_turn dots actors n i (dot a x) ds h k q, w, add-one)
+number_turn actors line line' ds i a x h q w = rw (along_turn dots actors i (dot a x) ds h q, w, add-one)
 
 pub number_met : (line : List ℕ) (i a b x y : ℕ) → a ≡ b → y ≡ max (get_or line i 0) x → set line i y ≡ set line i (max (get_or line i 0) (pick (eqb a b) x 0))
 number_met line i a b x y e f = rw (eq-eqb a b e, f)
@@ -179,51 +192,43 @@ number_kept line i a b x e = rw (ne_eqb a b e) (sym (set_same line i 0 (λ h. om
 
 -- ---- the numbers of all actors of the dots that stand from a place on
 
-pub dots_turn : (t actors line line' : List ℕ) (n i r p left a x : ℕ) → 0 < left → a ≡ u32_at t p → x ≡ u64_at t (p + 4) → UpTo dots (numbers_by actors n) (dot a x) i line r line'
-    → numbers_by actors n line' r (dots_at t (p + 12) (left - 1)) ≡ numbers_by actors n line i (dots_at t p left)
+pub dots_turn : (t actors line line' : List ℕ) (i r p q left j a x : ℕ) → left ≡ j + 1 → q ≡ p + 12 → a ≡ u32_at t p → x ≡ u64_at t (p + 4) → UpTo dots (numbers_by actors) (dot a x) i line r line'
+    → numbers_by actors line' r (dots_at t q j) ≡ numbers_by actors line i (dots_at t p left)
 unfolding dot_in
-dots_turn t actors line line' n i r p left a x h e f u =
-    let g : dots_at t p left ≡ dot a x ∷ dots_at t (p + 12) (left - 1) = rw (e, f) (list_step dot_at (λ s p. p + 12) t p left (left - 1) (omega arith)) in
-    rw g (u.same (dots_at t (p + 12) (left - 1)))
+dots_turn t actors line line' i r p q left j a x h k e f u =
+    let g : dots_at t p left ≡ dot a x ∷ dots_at t q j = rw (e, f, k) (list_step dot_at (λ s p. p + 12) t p left j h) in
+    rw g (u.same (dots_at t q j))
 
 none_counted : (line : List ℕ) (i : ℕ) (ks : List ℕ) → raise_from line i (along dots ks []) ≡ line
 unfolding raise_from
 none_counted line i [] = refl
 none_counted line i (k ∷ ks) = ap (λ (l : List ℕ). raise_from l (suc i) (along dots ks [])) (set_same line i 0 (λ h. omega arith)) ∙ none_counted line (suc i) ks
 
-pub dots_end : (t actors line : List ℕ) (n i p left : ℕ) → left ≤ 0 → numbers_by actors n line i (dots_at t p left) ≡ line
-dots_end t actors line n i p left h = rw (list_end dot_at (λ s p. p + 12) t p left h) (none_counted line i (slice i n actors))
+pub dots_end : (t actors line : List ℕ) (i p left : ℕ) → left ≤ 0 → numbers_by actors line i (dots_at t p left) ≡ line
+dots_end t actors line i p left h = rw (list_end dot_at (λ s p. p + 12) t p left h) (none_counted line i (drop i actors))
 
 -- ---- the actors of a clock, and the members at places
 
-module _ {A : Type 0} (f : A → ℕ) (none : A) (l : List A) (n : ℕ) where
-  pub each_turn : (out : List ℕ) (i x : ℕ) → i < n → n ≤ length l → x ≡ f (get_or l i none) → sets (set out i x) (i + 1) (map f (slice (i + 1) n l)) ≡ sets out i (map f (slice i n l))
-  each_turn out i x h k e = rw (ahead l i n none h k, ← e, add-one)
-
-  pub each_end : (out : List ℕ) (i : ℕ) → n ≤ i → sets out i (map f (slice i n l)) ≡ out
-  each_end out i h = rw (done l i n h)
+pub each_turn : {A : Type 0} (f : A → ℕ) (none : A) (l : List A) (out : List ℕ) (i x : ℕ) → i < length out → i < length l → x ≡ f (get_or l i none)
+    → take i out ≡ map f (take i l) → take (i + 1) (set out i x) ≡ map f (take (i + 1) l)
+each_turn f none l out i x h k e w = rw (add-one i, take-suc-set out i x h, take-suc l i none k, map-append f (take i l) (get_or l i none ∷ []), w, e)
 
 pub taken : (z xs : List ℕ) (n : ℕ) → length xs ≡ n → n ≤ length z → take n (sets z 0 xs) ≡ xs
 taken z xs n e h = rw (sets-eq xs z 0 (omega arith)) (take_at xs (drop (0 + length xs) z) n e)
 
 -- ---- the floor
 
-pub under_turn : (line floor : List ℕ) (j : ℕ) → ((i : ℕ) → i < j → get_or line i 0 ≤ get_or floor i 0) → get_or line j 0 ≤ get_or floor j 0
-    → (i : ℕ) → i < j + 1 → get_or line i 0 ≤ get_or floor i 0
-under_turn line floor j h k i l = by_lt i j (λ q. h i q) (λ q. let e : i ≡ j = omega arith in rw e k)
+-- a part written over is a run of stores
+part_set : (out xs : List ℕ) (at k : ℕ) → length xs ≡ k → at + k ≤ length out → put_mid at k out xs ≡ sets out at xs
+part_set out xs at k e h = put_mid-paste at k out xs xs (length xs) refl e refl ∙ rw (take_all (length xs) xs (omega arith)) (sym (sets-eq xs out at (omega arith)))
 
-pub lay_turn : (out floor : List ℕ) (p q j : ℕ) → j < length floor → q ≡ p + 1 → sets (set out p (get_or floor j 0)) q (drop (j + 1) floor) ≡ sets out p (drop j floor)
-lay_turn out floor p q j h e = rw (rest floor j 0 h, e, add-one p)
-
-pub lay_end : (out floor : List ℕ) (p j : ℕ) → length floor ≤ j → sets out p (drop j floor) ≡ out
-lay_end out floor p j h = let e = drop_of_length-le floor {i = j} h in rw e
-
-pub spread_turn : (out out' floor : List ℕ) (n i : ℕ) → i < n → length floor ≡ 16 → out' ≡ sets out (16 * i) floor → sets out' (16 * (i + 1)) (spread (n - (i + 1)) floor) ≡ sets out (16 * i) (spread (n - i) floor)
+pub spread_turn : (out out' floor : List ℕ) (n i : ℕ) → i < n → length floor ≡ 16 → 16 * n ≤ length out → out' ≡ put_mid (16 * i) (16 * i + 16 - 16 * i) out floor → sets out' (16 * (i + 1)) (spread (n - (i + 1)) floor) ≡ sets out (16 * i) (spread (n - i) floor)
 unfolding spread
-spread_turn out out' floor n i h l w =
+spread_turn out out' floor n i h l k w =
+    let z : 16 * i + 16 - 16 * i ≡ 16 = omega arith in
     let e : n - i ≡ suc (n - (i + 1)) = omega arith in
     let f : 16 * (i + 1) ≡ 16 * i + length floor = omega arith in
-    rw (e, f, w) (sym (sets_append out (16 * i) floor (spread (n - (i + 1)) floor)))
+    rw (e, f, w, z, part_set out floor (16 * i) 16 l (omega arith)) (sym (sets_append out (16 * i) floor (spread (n - (i + 1)) floor)))
 
 pub spread_end : (out floor : List ℕ) (p n i : ℕ) → n ≤ i → sets out p (spread (n - i) floor) ≡ out
 unfolding spread
@@ -296,25 +301,25 @@ module _ (v c : Clock) (actors : List ℕ) (e : actors ≡ map (λ d. actor_of d
 
 -- ---- all waiting removes
 
-pub wait_turn : (v : Clock) (ms t waits out out' line : List ℕ) (n i q : ℕ) → i < n → n ≤ length waits → q ≡ get_or waits i 0 → line ≡ line_of v (clock_read t q)
+pub wait_turn : (v : Clock) (ms t waits out out' line : List ℕ) (i q : ℕ) → i < length waits → q ≡ get_or waits i 0 → line ≡ line_of v (clock_read t q)
     → out' ≡ raised out 0 (along member_rows ms (wait_read t q).members) line
-    → kill_lines v ms (map (λ p. wait_read t p) (slice (i + 1) n waits)) out' ≡ kill_lines v ms (map (λ p. wait_read t p) (slice i n waits)) out
+    → kill_lines v ms (map (λ p. wait_read t p) (drop (i + 1) waits)) out' ≡ kill_lines v ms (map (λ p. wait_read t p) (drop i waits)) out
 unfolding kill_lines wait_read
-wait_turn v ms t waits out out' line n i q h k e f w = rw (ahead waits i n 0 h k, ← e, w, f)
+wait_turn v ms t waits out out' line i q h e f w = rw (drop-cons waits i 0 h, add-one i, ← e, w, f)
 
-pub wait_end_is : (v : Clock) (ms t waits out : List ℕ) (n i : ℕ) → n ≤ i → kill_lines v ms (map (λ p. wait_read t p) (slice i n waits)) out ≡ out
+pub wait_end_is : (v : Clock) (ms t waits out : List ℕ) (i : ℕ) → length waits ≤ i → kill_lines v ms (map (λ p. wait_read t p) (drop i waits)) out ≡ out
 unfolding kill_lines
-wait_end_is v ms t waits out n i h = rw (done waits i n h)
+wait_end_is v ms t waits out i h = let e : drop i waits ≡ [] = drop_of_length-le waits {i = i} h in rw e
 
-module _ (v : Clock) (t waits top : List ℕ) (n i : ℕ) where
-  pub top_turn : (actors top' : List ℕ) → i < n → n ≤ length waits → length actors ≤ 16 → actors ≡ map (λ d. actor_of d) v → top' ≡ raise_from top 0 (along dots actors (clock_read t (get_or waits i 0)))
-      → top_from v (map (λ p. wait_read t p) (slice (i + 1) n waits)) top' ≡ top_from v (map (λ p. wait_read t p) (slice i n waits)) top
+module _ (v : Clock) (t waits top : List ℕ) (i : ℕ) where
+  pub top_turn : (actors top' : List ℕ) → i < length waits → length actors ≤ 16 → actors ≡ map (λ d. actor_of d) v → top' ≡ raise_from top 0 (along dots actors (clock_read t (get_or waits i 0)))
+      → top_from v (map (λ p. wait_read t p) (drop (i + 1) waits)) top' ≡ top_from v (map (λ p. wait_read t p) (drop i waits)) top
   unfolding top_from wait_read
-  top_turn actors top' h k few e w = rw (ahead waits i n 0 h k, w, raise_line v (clock_read t (get_or waits i 0)) actors e top few)
+  top_turn actors top' h few e w = rw (drop-cons waits i 0 h, add-one i, w, raise_line v (clock_read t (get_or waits i 0)) actors e top few)
 
-  pub top_end : n ≤ i → top_from v (map (λ p. wait_read t p) (slice i n waits)) top ≡ top
+  pub top_end : length waits ≤ i → top_from v (map (λ p. wait_read t p) (drop i waits)) top ≡ top
   unfolding top_from
-  top_end h = rw (done waits i n h)
+  top_end h = let e : drop i waits ≡ [] = drop_of_length-le waits {i = i} h in rw e
 
 -- where the members of the waiting remove at a place stand
 pub members_are : (t : List ℕ) (at q n : ℕ) → q ≡ at → n ≡ u32_at t q → members_at t (q + 4 + 12 * n + 4) (min (u32_at t (q + 4 + 12 * n)) 64) ≡ (wait_read t at).members

@@ -5,20 +5,24 @@
 
 ghost use Rattle.std.specs.Counts.{IsPrefixLen};
 
+use dots::Refused;
 use std::env::Env;
 use std::fs::{Files, OpenFile};
 use std::io::{ErrorKind, Read, Write};
 use std::{fs, io};
+
+// The path that an argument names; none where it is missing, long or no text.
+fn argument<'a, R: Env>(rt: &R, i: usize, name: &'a mut [u8]) -> Option<&'a str> {
+    let length = rt.arg(i, name).ok()?;
+    str::from_utf8(&name[..length]).ok()
+}
 
 // Reads the file that an argument names, as far as the buffer goes, and answers how many bytes there are: none where it is missing or can't be opened.
 fn load<R: Env + Files>(rt: &R, i: usize, buf: &mut [u8]) -> usize
     ensures { IsPrefixLen result buf.new }
 {
     let mut name = [0u8; 4096];
-    let Ok(length) = rt.arg(i, &mut name) else {
-        return 0;
-    };
-    let Ok(path) = str::from_utf8(&name[..length]) else {
+    let Some(path) = argument(rt, i, &mut name) else {
         return 0;
     };
     let Ok(mut file) = fs::open(rt, path) else {
@@ -27,7 +31,8 @@ fn load<R: Env + Files>(rt: &R, i: usize, buf: &mut [u8]) -> usize
     fill(&mut file, buf)
 }
 
-// Reads until the buffer is full, the file ends or a read fails, and answers how many bytes that are.
+// Reads until the buffer is full, the file ends or a read fails, and answers how many bytes that are. A read moves on by what it gave: no
+// index is counted.
 fn fill<F: Read>(file: &mut F, buf: &mut [u8]) -> usize
     ensures { IsPrefixLen result buf.new }
 {
@@ -44,10 +49,7 @@ fn fill<F: Read>(file: &mut F, buf: &mut [u8]) -> usize
 // Writes the file that the third argument names, and answers whether it was written whole.
 fn store<R: Env + Files>(rt: &R, image: &[u8]) -> bool {
     let mut name = [0u8; 4096];
-    let Ok(length) = rt.arg(3, &mut name) else {
-        return false;
-    };
-    let Ok(path) = str::from_utf8(&name[..length]) else {
+    let Some(path) = argument(rt, 3, &mut name) else {
         return false;
     };
     let Ok(mut file) = fs::create(rt, path) else {
@@ -64,10 +66,6 @@ fn kept<F: OpenFile>(file: &F) -> bool {
     }
 }
 
-fn say(rt: &impl Print, word: &str, n: u64) -> io::Result<()> {
-    println!(rt; "{word}{n}")
-}
-
 // A buffer has one byte more than the longest image, so a file that is too long is refused as not well-formed.
 fn main(rt: HostRuntime) -> io::Result<()> {
     let mut a = [0u8; 18269];
@@ -75,14 +73,9 @@ fn main(rt: HostRuntime) -> io::Result<()> {
     let mut out = [0u8; 18268];
     let n = load(&rt, 1, &mut a);
     let m = load(&rt, 2, &mut b);
-    let w = merging::merge(&a[..n], &b[..m], &mut out);
-    if w.no != 0 {
-        return say(&rt, "refused ", w.no as u64);
-    }
-    let len = w.len;
-    if store(&rt, &out[..len]) {
-        say(&rt, "done ", len as u64)
-    } else {
-        say(&rt, "refused ", 10)
+    match merging::merge(&a[..n], &b[..m], &mut out) {
+        Ok(length) if store(&rt, &out[..length]) => println!(rt; "done {length}"),
+        Ok(_) => println!(rt; "refused {}", Refused::ShortOutput.number()),
+        Err(refused) => println!(rt; "refused {}", refused.number()),
     }
 }

@@ -1,31 +1,34 @@
 -- What a call that applies an operation answers, step by step.
 use Prim.Native.Nat.{ℕ, ◌+◌, ◌*◌, ◌≤◌, ◌<◌, compare}
 use mathlib.Core.Path.{◌≡◌, refl, sym, ap, ◌∙◌, subst}
-use mathlib.Core.Bool.{Bool, true, false}
-use mathlib.Core.Option.{Option}
+use mathlib.Core.Bool.{Bool, true, false, false≢true}
+use mathlib.Core.Option as math
 use mathlib.Core.List.{List, [], ◌∷◌, map}
 use native.Mathlib.Omega.{arith}
-use lib.Dec.{T, eqb, ltb, leb, le→leb, lt→ltb}
+use Rattle.std.specs.Prelude.{Option, Some, None, Result, Ok, Err}
+use Rattle.std.specs.declared.cmp.Ordering.{Ordering}
+use Rattle.dots.specs.declared.refusals.Refused.{Refused}
+use Rattle.dots.specs.declared.refusals.Refused.TheVariants.{BadImage, BadClock, LongList}
+use Rattle.dots.specs.Answers.{answer, number}
+use Rattle.dots.proofs.AnswersFacts.{number_positive, answered_ok, answered_err}
+use Rattle.clocks.proofs.Answers.{is_fit, is_unfit, alone_fit}
+use lib.Dec.{T, ltb, leb, le→leb, lt→ltb}
 use lib.ListN.{length, take, replicate, length-take, length-replicate}
 use lib.Seq.{sets}
 use borrow.Author.Tests.{ltb-false, lt-ltb, le-ltb, le-leb, lt-leb}
-use Rattle.tables.specs.Table.{Normal, Proper, Asc, pick, cons?, all_any, map_id}
+use Rattle.tables.specs.Table.{Normal, Proper, Asc, pick, every, cons?, all_any, map_id}
 use Rattle.tables.specs.Truth.{and_i}
 use Rattle.tables.specs.Refusal.{first_of}
 use Rattle.tables.specs.Zip.{Rise, by_lt}
 use Rattle.dots.specs.declared.Dot.{Dot}
 use Rattle.dots.specs.Dot.{dots, clocks, actor_of}
-use Rattle.dots.specs.declared.Comparison.{Comparison}
-use Rattle.dots.specs.Calls.{means}
+use Rattle.dots.specs.Calls.{Standing, means, means_named}
 use Rattle.dots.specs.Clock.{Clock, normal, count, covers, applied}
 use Rattle.dots.specs.ClockLaws.{proper_dot, normal_to, normal_empty}
 use Rattle.dots.specs.Ruled.{applied_normal, applied_count, applied_empty}
 use Rattle.clocks.specs.declared.VClock.{VClock}
-use Rattle.clocks.specs.declared.ClockAnswer.{ClockAnswer}
-use Rattle.clocks.specs.declared.CounterAnswer.{CounterAnswer}
 use Rattle.clocks.specs.VClock.{dots_of, vclock, normalised, few, dots_normal, len_vclock, dots_vclock, vclock_normalised}
-use Rattle.clocks.specs.declared.ComparisonAnswer.{ComparisonAnswer}
-use Rattle.clocks.specs.Calls.{Compared, comparison_says, compare_call, crowded, clock_answer, counter_answer, get_call, apply_call as clockApply}
+use Rattle.clocks.specs.Calls.{compare_call, clock_answer, get_call, apply_call as clockApply}
 use Rattle.replica.specs.Replica.{Entry, Wait, Replica, member_sets}
 use Rattle.replica.specs.Rules.{set_of, settle, add, remove}
 use Rattle.replica.specs.Limits.{full, limits_of, broken, well_formed}
@@ -47,14 +50,13 @@ use Rattle.changing.specs.Kept.{Along, kept_entries}
 use Rattle.changing.specs.KeptWaits.{kept_waits}
 use Rattle.changing.specs.Brought.{remove_kept, add_kept}
 use Rattle.changing.specs.Waits.{add_waits, remove_waits}
-use Rattle.results.specs.declared.Written.{Written}
 use Rattle.results.specs.declared.Draft.{Draft}
-use Rattle.results.specs.Call.{finish_of, number_of, answered, answer_of, output_of, Meets}
+use Rattle.results.specs.Call.{finish_of, number_of, answer_of, output_of, Meets}
 use Rattle.results.specs.Finish.{start_of, Finished}
 use Rattle.results.proofs.FinishLaws.{finish_meets}
 use Rattle.image.specs.declared.Image.{Image}
 use Rattle.image.specs.Image.{image_of_bytes, check_image}
-use Rattle.image.proofs.Link.{image_good}
+use Rattle.image.proofs.Link.{image_good, image_bad}
 use Rattle.lists.specs.declared.Members.{Members}
 use Rattle.lists.specs.Members.{members_of, list_of}
 use Rattle.lists.specs.Gather.{listed_is, listed_few}
@@ -74,26 +76,26 @@ use Rattle.merging.proofs.WaitSteps.{end_ge}
 
 -- ---- the arguments
 
-module _ (s : List ℕ) (op : Operation) (c : VClock) (ms before : List ℕ) (r : Written) (x : Image) (cx : x ≡ check_image s) where
-  pub bad_image : x.good ≡ false → r ≡ answered 1 0 → Meets full (apply_call s op c ms) before r before
+module _ (s : List ℕ) (op : Operation) (c : VClock) (ms before : List ℕ) where
+  pub bad_image : None ≡ check_image s → Meets full (apply_call s op c ms) before (Err BadImage) before
   unfolding number_of apply_call unfit_arguments first_of
-  bad_image g e = refused_meets (apply_call s op c ms) before 1 r e (λ z. omega arith) (rw (image_good s x cx false g).0)
+  bad_image g = refused_meets (apply_call s op c ms) before BadImage (rw (image_bad s g))
 
-  module _ (g : x.good ≡ true) where
-    pub bad_clock : normalised c ≡ false → r ≡ answered 3 0 → Meets full (apply_call s op c ms) before r before
+  module _ (x : Image) (cx : Some x ≡ check_image s) where
+    pub bad_clock : normalised c ≡ false → Meets full (apply_call s op c ms) before (Err BadClock) before
     unfolding number_of apply_call unfit_arguments first_of
-    bad_clock n e = refused_meets (apply_call s op c ms) before 3 r e (λ z. omega arith) (rw ((image_good s x cx true g).0, n))
+    bad_clock n = refused_meets (apply_call s op c ms) before BadClock (rw ((image_good s x cx).0, n))
 
-    pub long_list : normalised c ≡ true → 64 < length ms → r ≡ answered 4 0 → Meets full (apply_call s op c ms) before r before
+    pub long_list : normalised c ≡ true → 64 < length ms → Meets full (apply_call s op c ms) before (Err LongList) before
     unfolding number_of apply_call unfit_arguments first_of
-    long_list n l e = refused_meets (apply_call s op c ms) before 4 r e (λ z. omega arith) (rw ((image_good s x cx true g).0, n, lt-ltb 64 (length ms) l))
+    long_list n l = refused_meets (apply_call s op c ms) before LongList (rw ((image_good s x cx).0, n, lt-ltb 64 (length ms) l))
 
-    module _ (n : normalised c ≡ true) (l : length ms ≤ 64) (after : List ℕ) where
+    module _ (n : normalised c ≡ true) (l : length ms ≤ 64) (r : Result ℕ Refused) (after : List ℕ) where
       arguments_pass : Meets full (granted (operated op (dots_of c) ms (image_of s))) before r after → Meets full (apply_call s op c ms) before r after
       unfolding number_of answer_of output_of apply_call unfit_arguments first_of
       arguments_pass k = record {
-        answer = k.answer ∙ rw ((image_good s x cx true g).0, n, le-ltb 64 (length ms) l);
-        output = k.output ∙ rw ((image_good s x cx true g).0, n, le-ltb 64 (length ms) l);
+        answer = k.answer ∙ rw ((image_good s x cx).0, n, le-ltb 64 (length ms) l);
+        output = k.output ∙ rw ((image_good s x cx).0, n, le-ltb 64 (length ms) l);
       }
 
       pub add_passes : (d : Dot) → op ≡ AnAdd d → Meets full (granted (add d ms (image_of s))) before r after → Meets full (apply_call s op c ms) before r after
@@ -106,12 +108,18 @@ module _ (s : List ℕ) (op : Operation) (c : VClock) (ms before : List ℕ) (r 
 
 -- ---- "If V doesn't cover c, the remove waits"
 
-pub waits_told : (v c : VClock) → normalised v ≡ true → normalised c ≡ true → (r : ComparisonAnswer) → comparison_says r ≡ compare_call v c → (o : Comparison) → r.order ≡ o
-    → ◌≡◌ {A = ℕ} (pick (means o).first_at_least 0 1) (pick (covers (dots_of v) (dots_of c)) 0 1)
-unfolding comparison_says compare_call first_of
-waits_told v c nv nc r e o eo =
-    let f : (means r.order).first_at_least ≡ covers (dots_of v) (dots_of c) = rw (nv, nc) at (ap (λ (z : Compared). z.stands.first_at_least) e) in
-    ap (λ (b : Bool). pick {A = ℕ} b 0 1) (ap (λ (q : Comparison). (means q).first_at_least) (sym eo) ∙ f)
+module _ (v c : VClock) (nv : normalised v ≡ true) (nc : normalised c ≡ true) where
+  both_normal : every normalised (v ∷ c ∷ []) ≡ true
+  both_normal = rw (nv, nc)
+
+  pub compare_granted : (f : Refused) → Err f ≡ compare_call v c → ⊥
+  unfolding compare_call
+  compare_granted f e = let p = (is_unfit _ _ e).0 in absurd (false≢true (sym p ∙ both_normal))
+
+  pub waits_told : (o : Option Ordering) → Ok o ≡ compare_call v c → (l : ℕ) → l ≡ pick (means o).first_at_least 0 1 → l ≡ pick (covers (dots_of v) (dots_of c)) 0 1
+  unfolding compare_call
+  waits_told o e l h =
+      h ∙ ap (λ (z : Standing). pick {A = ℕ} z.first_at_least 0 1) (ap means (is_fit _ _ e).1 ∙ means_named (covers (dots_of v) (dots_of c)) (covers (dots_of c) (dots_of v)))
 
 pub waits_one : (b : Bool) (l : ℕ) → l ≡ pick b 0 1 → l ≤ 1
 waits_one true l e = rw e (omega arith)
@@ -122,7 +130,7 @@ empty_clock v e = rw e (omega (arith, len_vclock []), rw (dots_vclock [] (omega 
 
 -- ---- a finished draft of a result
 
-pub granted_meets : (R : Replica) (v : VClock) (es : List Entry) (ws : List Wait) (before : List ℕ) (r : Written) (after : List ℕ) → dots_of v ≡ R.clock → v.len ≡ length R.clock
+pub granted_meets : (R : Replica) (v : VClock) (es : List Entry) (ws : List Wait) (before : List ℕ) (r : Result ℕ Refused) (after : List ℕ) → dots_of v ≡ R.clock → v.len ≡ length R.clock
     → (broken full R ≡ 0 → T (well_formed full R)) → R.entries ≡ es → R.waiting ≡ ws → FinishedOf es ws v before r after → Meets full (granted R) before r after
 unfolding number_of
 granted_meets R v es ws before r after dots_are long well ee ew F =
@@ -144,15 +152,15 @@ own_clock A v few normal e =
     let d = dots_vclock A.clock few in
     rw e (record { few_ok = omega (arith, len_vclock A.clock); dots_are = d; long = len_vclock A.clock; normal_ok = rw d normal; right = vclock_normalised A.clock few normal })
 
-module _ (s : List ℕ) (x : Image) (cx : x ≡ check_image s) (g : x.good ≡ true) where
+module _ (s : List ℕ) (x : Image) (cx : Some x ≡ check_image s) where
   abbrev A : Replica
   A = image_of s
 
   good : good_image s ≡ true
-  good = (image_good s x cx true g).0
+  good = (image_good s x cx).0
 
   told : x ≡ image_of_bytes s
-  told = (image_good s x cx true g).1
+  told = (image_good s x cx).1
 
   formed : T (well_formed full A)
   formed = good_formed s (rw good tt)
@@ -218,7 +226,7 @@ module _ (s : List ℕ) (x : Image) (cx : x ≡ check_image s) (g : x.good ≡ t
           (λ h. let e : l ≡ 0 = omega arith in rw e)
 
       module _ (b : List ℕ) (eb : b ≡ encode B) (v settled : VClock) (few_v : v.len ≤ 16) (normal_v : Normal clocks (dots_of v)) (few_settled : settled.len ≤ 16) (normal_settled : Normal clocks (dots_of settled)) where
-        pub draft_ready : Along (dots_of v) A.clock → (0 < n → Along (dots_of v) (dots_of c)) → Held s x × Held b y × WaitsReady (dots_of settled) s (waits_start_at s) x.waits b (waits_start_at b) l × (v.len ≤ 16) × (settled.len ≤ 16) × Rise dots (dots_of v) × (start_of v ≤ 220)
+        pub draft_ready : Along (dots_of v) A.clock → (0 < n → Along (dots_of v) (dots_of c)) → Held s x × Held b y × WaitsReady (dots_of settled) s (waits_start_at s) x.waits b (waits_start_at b) l × (v.len ≤ 16) × (settled.len ≤ 16) × Rise dots (dots_of v)
             × Goes (map (λ d. actor_of d) (dots_of v)) A.entries × Goes (map (λ d. actor_of d) (dots_of v)) (image_of b).entries × (good_image s ≡ true) × (x.waits ≡ waits_count s)
         unfolding image_of_bytes
         draft_ready av ac = rw (eb, Y.image) (
@@ -228,14 +236,13 @@ module _ (s : List ℕ) (x : Image) (cx : x ≡ check_image s) (g : x.good ≡ t
           few_v,
           few_settled,
           normal_v.asc,
-          omega arith,
           goes_image (dots_of v) normal_v s good av,
           goes_brought (dots_of v) normal_v (dots_of c) (take n m.at) S.normal (λ h. ac (let k = length-take n m.at in omega arith)),
           good,
           ap (λ (z : Image). z.waits) told,
         )
 
-        pub side_finished : (d : Draft) (out body before : List ℕ) (r : Written) (after : List ℕ) → length out ≡ 18268
+        pub side_finished : (d : Draft) (out body before : List ℕ) (r : Result ℕ Refused) (after : List ℕ) → length out ≡ 18268
             → DraftOf (kept_entries (map (λ d. actor_of d) (dots_of v)) A (image_of b)) (kept_waits (dots_of settled) (waits_at s (waits_start_at s) x.waits) (waits_at b (waits_start_at b) l)) (start_of v) d out body
             → Finished v d body before r after → FinishedOf (kept_entries (map (λ d. actor_of d) (dots_of v)) A B) (kept_waits (dots_of settled) A.waiting (take l B.waiting)) v before r after
         unfolding image_in image_of_bytes
@@ -266,7 +273,7 @@ module _ (s : List ℕ) (x : Image) (cx : x ≡ check_image s) (g : x.good ≡ t
       remove_formed e = step_well_formed full (Apply (Remove (dots_of c) ms)) A
           (and_i (normal (dots_of c)) (leb (length (dots_of c)) 16) (normal_to (dots_of c) (dots_normal c nc)) (le→leb (length (dots_of c)) 16 (let f = few c nc in simp length-take (omega arith)))) formed e
 
-      pub remove_meets : (v settled : VClock) (l : ℕ) (before : List ℕ) (r : Written) (after : List ℕ) → v ≡ x.clock → settled ≡ vclock [] → l ≡ pick (covers (dots_of v) (dots_of c)) 0 1
+      pub remove_meets : (v settled : VClock) (l : ℕ) (before : List ℕ) (r : Result ℕ Refused) (after : List ℕ) → v ≡ x.clock → settled ≡ vclock [] → l ≡ pick (covers (dots_of v) (dots_of c)) 0 1
           → FinishedOf (kept_entries (map (λ d. actor_of d) (dots_of v)) A (side_of c m 0)) (kept_waits (dots_of settled) A.waiting (take l (side_of c m 0).waiting)) v before r after
           → Meets full (granted (remove (dots_of c) ms A)) before r after
       remove_meets v settled l before r after ev es el F =
@@ -296,13 +303,17 @@ module _ (s : List ℕ) (x : Image) (cx : x ≡ check_image s) (g : x.good ≡ t
     unfolding step fits apply
     add_formed d e = step_well_formed full (Apply (Add d ms)) A tt formed e
 
-    module _ (d : Dot) (a : CounterAnswer) (ea : a ≡ get_call x.clock (actor_of d)) where
-      counter_is : a.counter ≡ count A.clock (actor_of d)
-      unfolding get_call counter_answer first_of
-      counter_is = let o = clock_told in ap (λ (r : CounterAnswer). r.counter) ea ∙ rw (o.right, o.dots_are)
+    pub counter_granted : (d : Dot) (f : Refused) → Err f ≡ get_call x.clock (actor_of d) → ⊥
+    unfolding get_call
+    counter_granted d f e = let p = alone_fit x.clock false (is_unfit _ _ e).0 in let o = clock_told in false≢true (sym p ∙ o.right)
+
+    module _ (d : Dot) (n : ℕ) (en : Ok n ≡ get_call x.clock (actor_of d)) where
+      counter_is : n ≡ count A.clock (actor_of d)
+      unfolding get_call
+      counter_is = let o = clock_told in rw (sym o.dots_are) (is_fit _ _ en).1
 
       -- V covers the dot: nothing changes, as by a remove without a clock
-      pub add_covered : d.counter ≤ a.counter → (none : VClock) → none ≡ vclock [] → (before : List ℕ) (r : Written) (after : List ℕ)
+      pub add_covered : d.counter ≤ n → (none : VClock) → none ≡ vclock [] → (before : List ℕ) (r : Result ℕ Refused) (after : List ℕ)
           → Meets full (granted (remove (dots_of none) ms A)) before r after → Meets full (granted (add d ms A)) before r after
       unfolding covers
       add_covered h none en before r after k =
@@ -311,31 +322,30 @@ module _ (s : List ℕ) (x : Image) (cx : x ≡ check_image s) (g : x.good ≡ t
           subst (λ (R : Replica). Meets full (granted R) before r after)
           (ap (λ (c : VClock). remove (dots_of c) ms A) en ∙ ap (λ (c : Clock). remove c ms A) (dots_vclock [] (omega arith)) ∙ remove_empty ms A well ∙ sym (add_seen d ms A seen)) k
 
-      module _ (above : a.counter < d.counter) (w : ClockAnswer) (ew : w ≡ clockApply x.clock d) where
+      module _ (above : n < d.counter) where
         new : covers A.clock (d ∷ []) ≡ false
         unfolding covers
         new = let l = counter_is in rw (lt-leb d.counter (count A.clock (actor_of d)) (omega arith))
 
-        answer_is : w ≡ clock_answer (first_of (crowded (applied A.clock d) ∷ [])) (applied A.clock d)
-        unfolding clockApply first_of
-        answer_is = let o = clock_told in ew ∙ rw (o.right, o.dots_are)
+        answer_is : clockApply x.clock d ≡ answer (pick (ltb 16 (length (applied A.clock d))) 6 0) (vclock (applied A.clock d))
+        unfolding clockApply clock_answer first_of
+        answer_is = let o = clock_told in rw (o.right, o.dots_are)
 
         added_clock : (add d ms A).clock ≡ applied A.clock d
         unfolding add settle
         added_clock = rw new
 
         -- "6: the result's clock would have over 16 actors"
-        pub add_crowded : (w.no ≡ 0 → ⊥) → (before : List ℕ) (r : Written) → r ≡ answered 6 0 → Meets full (granted (add d ms A)) before r before
-        unfolding clock_answer first_of limits_of number_of
-        add_crowded z before r e =
-            refused_meets (granted (add d ms A)) before 6 r e (λ z. omega arith) (go (ltb 16 (length (applied A.clock d))) refl (ap (λ (r : ClockAnswer). r.no) answer_is))
+        pub add_crowded : (f : Refused) → Err f ≡ clockApply x.clock d → (before : List ℕ) → Meets full (granted (add d ms A)) before (Err f) before
+        unfolding first_of limits_of number_of
+        add_crowded f z before = refused_meets (granted (add d ms A)) before f (go (ltb 16 (length (applied A.clock d))) refl (sym (z ∙ answer_is)))
           where
-            go : (c : Bool) → ltb 16 (length (applied A.clock d)) ≡ c → w.no ≡ pick c 6 0 → first_of (finish_of full (add d ms A) (length before)) ≡ 6
-            go true e f = rw (added_clock, e)
-            go false e f = absurd (z f)
+            go : (c : Bool) → ltb 16 (length (applied A.clock d)) ≡ c → answer (pick c 6 0) (vclock (applied A.clock d)) ≡ Err f → first_of (finish_of full (add d ms A) (length before)) ≡ number f
+            go true e g = rw (added_clock, e) (answered_err 6 (vclock (applied A.clock d)) f (omega arith) g)
+            go false e g = let p = number_positive f in let q = answered_err 0 (vclock (applied A.clock d)) f (omega arith) g in absurd (omega arith)
 
         dot_alone : applied [] d ≡ d ∷ []
-        dot_alone = applied_empty d ∙ ap (λ (o : Option Dot). cons? o []) (proper_dot d (lt→ltb 0 d.counter (omega arith)))
+        dot_alone = applied_empty d ∙ ap (λ (o : math.Option Dot). cons? o []) (proper_dot d (lt→ltb 0 d.counter (omega arith)))
 
         module _ (c : VClock) (ec : c ≡ vclock (applied [] d)) where
           one_dot : dots_of c ≡ d ∷ []
@@ -347,27 +357,26 @@ module _ (s : List ℕ) (x : Image) (cx : x ≡ check_image s) (g : x.good ≡ t
           pub add_ready : SideReady c m m.len
           add_ready = record { within = omega arith; many = list_few; few = let l = one_long in omega arith; one = λ h. one_long; asc = list_asc; normal = rw one_dot (rw dot_alone at (applied_normal [] d)) }
 
-          module _ (z : w.no ≡ 0) where
+          module _ (w : VClock) (ew : Ok w ≡ clockApply x.clock d) where
             -- the clock with the dot
-            pub clock_added : OwnClock (add d ms A) w.clock
-            unfolding clock_answer first_of
-            clock_added = go (ltb 16 (length (applied A.clock d))) refl (ap (λ (r : ClockAnswer). r.no) answer_is) (ap (λ (r : ClockAnswer). r.clock) answer_is)
+            pub clock_added : OwnClock (add d ms A) w
+            clock_added = go (ltb 16 (length (applied A.clock d))) refl (sym (ew ∙ answer_is))
               where
-                go : (b : Bool) → ltb 16 (length (applied A.clock d)) ≡ b → w.no ≡ pick b 6 0 → w.clock ≡ vclock (pick (eqb (pick b 6 0) 0) (applied A.clock d) []) → OwnClock (add d ms A) w.clock
-                go true e f g = absurd (omega arith)
-                go false e f g = own_clock (add d ms A) w.clock (rw added_clock (ltb-false 16 (length (applied A.clock d)) e)) (rw added_clock (applied_normal A.clock d)) (g ∙ ap vclock (sym added_clock))
+                go : (b : Bool) → ltb 16 (length (applied A.clock d)) ≡ b → answer (pick b 6 0) (vclock (applied A.clock d)) ≡ Ok w → OwnClock (add d ms A) w
+                go true e g = let q = (answered_ok 6 (vclock (applied A.clock d)) w g).0 in absurd (omega arith)
+                go false e g = own_clock (add d ms A) w (rw added_clock (ltb-false 16 (length (applied A.clock d)) e)) (rw added_clock (applied_normal A.clock d)) (sym (answered_ok 0 (vclock (applied A.clock d)) w g).1 ∙ ap vclock (sym added_clock))
 
             -- it counts all that the old one and the dot do
-            pub added_along : Along (dots_of w.clock) A.clock × Along (dots_of w.clock) (dots_of c)
+            pub added_along : Along (dots_of w) A.clock × Along (dots_of w) (dots_of c)
             added_along =
                 let o = clock_added in
                 rw (o.dots_are, added_clock, one_dot) (λ i z. let k = applied_count A.clock d i in omega arith, λ i z. let k = applied_count A.clock d i in omega arith)
 
-            pub add_meets : (before : List ℕ) (r : Written) (after : List ℕ)
-                → FinishedOf (kept_entries (map (λ d. actor_of d) (dots_of w.clock)) A (side_of c m m.len)) (kept_waits (dots_of w.clock) A.waiting (take 0 (side_of c m m.len).waiting)) w.clock before r after
+            pub add_meets : (before : List ℕ) (r : Result ℕ Refused) (after : List ℕ)
+                → FinishedOf (kept_entries (map (λ d. actor_of d) (dots_of w)) A (side_of c m m.len)) (kept_waits (dots_of w) A.waiting (take 0 (side_of c m m.len).waiting)) w before r after
                 → Meets full (granted (add d ms A)) before r after
             add_meets before r after F =
                 let o = clock_added in
-                granted_meets (add d ms A) w.clock (kept_entries (map (λ d. actor_of d) (dots_of w.clock)) A (side_of c m m.len)) (kept_waits (dots_of w.clock) A.waiting []) before r after
+                granted_meets (add d ms A) w (kept_entries (map (λ d. actor_of d) (dots_of w)) A (side_of c m m.len)) (kept_waits (dots_of w) A.waiting []) before r after
                 o.dots_are o.long (add_formed d)
                 (rw (o.dots_are, added_clock, one_dot, list_is) (add_kept d ms A well new)) (rw (o.dots_are, added_clock) (add_waits d ms A well new)) F

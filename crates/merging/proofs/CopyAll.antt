@@ -49,7 +49,7 @@ module _ (s : List ℕ) (g : good_image s ≡ true) where
   waits_inside e = let l = up_to_end in omega arith
 
   pub all_copied : Bytes s → (q n : ℕ) (out out' : List ℕ) (at : ℕ) → q ≡ waits_start_at s → n ≡ waits_count s → out' ≡ sets out at (slice q (length s) s)
-      → WroteWaits out at ws out' (record { p = 0; m = 0; q = 0; k = 0; at = at + (length s - q); n = n; most = 0 })
+      → WroteWaits out at ws out' (record { at = at + (length s - q); n = n; most = 0 })
   unfolding image_in
   all_copied b q n out out' at eq en f =
       let P = passed s g in let k = P.few_waiting in let l = up_to_end in let h = short s g in let e = length_list_at wait_at_place wait_end s (waits_start_at s) (waits_count s) in

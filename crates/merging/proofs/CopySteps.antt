@@ -1,15 +1,14 @@
 -- Waiting removes copied as they stand in bytes.
-use Prim.Native.Nat.{ℕ, suc, ◌+◌, ◌*◌, ◌-◌, ◌≤◌, ◌<◌}
-use mathlib.Core.Path.{◌≡◌, sym, ap₂, ◌∙◌, subst}
-use mathlib.Core.List.{List, ◌∷◌, ◌++◌}
+use Prim.Native.Nat.{ℕ, ◌+◌, ◌≤◌}
+use mathlib.Core.Path.{◌≡◌, sym, ◌∙◌, subst}
+use mathlib.Core.List.{List, ◌++◌}
 use native.Mathlib.Omega.{arith}
 use lib.ListN.{length, take, drop, length-append}
 use lib.Seq.{slice, take-add, drop_at, length-take-le}
-use Rattle.layout.specs.Fields.{Bytes, u32_at, le32}
+use Rattle.layout.specs.Fields.{Bytes, le32}
 use Rattle.layout.proofs.Held.{Holds, holds_left, holds_right}
-use Rattle.layout.specs.Lists.{list_at}
 use Rattle.layout.specs.Clock.{clock_at, clock_end, encode_clock}
-use Rattle.layout.specs.Rows.{members_at, encode_members, wait_in, wait_end, wait_at_place, encode_wait, encode_wait_in}
+use Rattle.layout.specs.Rows.{encode_members, wait_in, wait_end, wait_at_place, encode_wait, encode_wait_in}
 use Rattle.layout.proofs.KitFacts.{part_is}
 use Rattle.layout.proofs.Parts.{clock_laws, wait_laws}
 
@@ -52,34 +51,3 @@ module _ (s : List ℕ) (p : ℕ) (b : Bytes s) (r : wait_end s p ≤ length s) 
       let c = clock_long in
       let w = wait_long in
       copied_is s (clock_end s p) (wait_end s p) counted h (omega arith) (omega arith)
-
--- ---- members that are the same
-
--- the first i members at p of s are those at q of t
-pub record Matched (s : List ℕ) (p : ℕ) (t : List ℕ) (q n i : ℕ) : Type 0 where
-  pub few : i ≤ n
-  pub so_far : members_at s (p + 4 * i) (n - i) ≡ members_at t (q + 4 * i) (n - i) → members_at s p n ≡ members_at t q n
-
-module _ (s : List ℕ) (p : ℕ) (t : List ℕ) (q n : ℕ) where
-  pub match_begin : Matched s p t q n 0
-  match_begin = record {
-    few = omega arith;
-    so_far = λ h. let a : n - 0 ≡ n = omega arith in let b : p + 4 * 0 ≡ p = omega arith in let c : q + 4 * 0 ≡ q = omega arith in rw (a, b, c) at h;
-  }
-
-  member_step : (s : List ℕ) (p i : ℕ) → i < n → members_at s (p + 4 * i) (n - i) ≡ u32_at s (p + 4 * i) ∷ members_at s (p + 4 * (i + 1)) (n - (i + 1))
-  unfolding list_at
-  member_step s p i h =
-      let e : n - i ≡ suc (n - (i + 1)) = omega arith in
-      let f : p + 4 * i + 4 ≡ p + 4 * (i + 1) = omega arith in
-      rw (e, f)
-
-  pub match_on : (i : ℕ) → i < n → u32_at s (p + 4 * i) ≡ u32_at t (q + 4 * i) → Matched s p t q n i → Matched s p t q n (i + 1)
-  match_on i h e z = record {
-    few = omega arith;
-    so_far = λ k. z.so_far (member_step s p i h ∙ ap₂ ◌∷◌ e k ∙ sym (member_step t q i h));
-  }
-
-  pub match_end : (i : ℕ) → n ≤ i → Matched s p t q n i → members_at s p n ≡ members_at t q n
-  unfolding list_at
-  match_end i h z = z.so_far (let e : n - i ≡ 0 = omega arith in rw e)

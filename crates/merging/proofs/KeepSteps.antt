@@ -17,10 +17,12 @@ use Rattle.layout.specs.Fields.{u32_at, u64_at, le32, le64}
 use Rattle.layout.proofs.FieldsFacts.{length_le32, length_le64}
 use Rattle.layout.specs.Lists.{bytes_of}
 use Rattle.layout.specs.Clock.{narrow, dot_in, dot_end_in, dot_at, dots_at, encode_dot, encode_dots, encode_dot_in}
+use Rattle.merging.specs.declared.entries.Dots.{Dots}
 use Rattle.merging.specs.declared.entries.Places.{Places}
 use Rattle.merging.specs.Ahead.{key_ahead, Met, said_ahead, past_ahead, wrote, length_cons}
 use Rattle.changing.specs.Kept.{keep_of}
-use Rattle.merging.specs.Keeping.{dot_list, KeptDot, KeptDots, lines_from, kept_along}
+use Rattle.merging.proofs.AheadSteps.{met_none, met_yes, met_no}
+use Rattle.merging.specs.Keeping.{dot_list, Took, KeptDot, KeptDots, lines_from, kept_along}
 
 -- ---- bytes of dots
 
@@ -70,35 +72,40 @@ module _ (s : List ℕ) (p n a i : ℕ) (small : a < 4294967296) (m : Met s p n 
   pub dot_edge : p + 12 * i + 12 * (n - i) ≡ p + 12 * n
   dot_edge = let f = m.fits in let o = m.one in omega arith
 
--- ---- one turn
+abbrev dots_of_two : ℕ → ℕ → Dots
+dots_of_two x y = record { at = x; left = y }
 
-pub kept_dot : (s t : List ℕ) (a la lb : ℕ) (out : List ℕ) (p : ℕ) (k : Places) (i j u w x c : ℕ) (out' : List ℕ) → a < 4294967296
-    → Met s k.x k.xs a i → Met t k.y k.ys a j → u ≡ pick (eqb i 0) 0 (u64_at s (k.x + 4)) → w ≡ pick (eqb j 0) 0 (u64_at t (k.y + 4)) → x ≡ keep_of la lb u w
-    → c ≡ length (dot_list a x) → out' ≡ sets out (p + 12 * k.n) (encode_dots (dot_list a x))
-    → KeptDot s t a la lb out p k out' (record { x = k.x + 12 * i; xs = k.xs - i; y = k.y + 12 * j; ys = k.ys - j; n = k.n + c })
-kept_dot s t a la lb out p k i j u w x c out' small mi mj eu ew ex ec eo =
-    let e : x ≡ keep_of la lb (said dots a (dots_at s k.x k.xs)) (said dots a (dots_at t k.y k.ys)) =
-    ex ∙ ap₂ (keep_of la lb) (dot_said s k.x k.xs a i small mi u eu) (dot_said t k.y k.ys a j small mj w ew) in
-    record {
-      left = dot_past s k.x k.xs a i small mi;
-      right = dot_past t k.y k.ys a j small mj;
-      left_edge = dot_edge s k.x k.xs a i small mi;
-      right_edge = dot_edge t k.y k.ys a j small mj;
-      count = ap (λ (r : ℕ). k.n + r) ec ∙ ap (λ (r : ℕ). k.n + length (dot_list a r)) e;
-      bytes = eo ∙ ap (λ (r : ℕ). sets out (p + 12 * k.n) (encode_dots (dot_list a r))) e;
-    }
+-- ---- one step of a walk: the dot ahead is the actor's, or not
+
+module _ (s : List ℕ) (a : ℕ) (k : Dots) (small : a < 4294967296) where
+  took : (i u : ℕ) (k' : Dots) → Met s k.at k.left a i → u ≡ pick (eqb i 0) 0 (u64_at s (k.at + 4)) → k' ≡ record { at = k.at + 12 * i; left = k.left - i } → Took s a k k' u
+  took i u k' m e f = rw f (record { is = dot_said s k.at k.left a i small m u e; past = dot_past s k.at k.left a i small m; edge = dot_edge s k.at k.left a i small m })
+
+  stays_here : k ≡ record { at = k.at + 12 * 0; left = k.left - 0 }
+  stays_here = let e : k.at ≡ k.at + 12 * 0 = omega arith in let f : k.left ≡ k.left - 0 = omega arith in ap₂ dots_of_two e f
+
+  pub took_none : k.left ≡ 0 → Took s a k k 0
+  took_none e = took 0 0 k (met_none s k.at k.left a small e) refl stays_here
+
+  pub took_other : (k.left ≡ 0 → ⊥) → (u32_at s k.at ≡ a → ⊥) → Took s a k k 0
+  took_other h e = took 0 0 k (met_no s k.at k.left a small h e) refl stays_here
+
+  pub took_one : (k.left ≡ 0 → ⊥) → u32_at s k.at ≡ a → (u : ℕ) → u ≡ u64_at s (k.at + 4) → Took s a k (record { at = k.at + 12; left = k.left - 1 }) u
+  took_one h e u f = took 1 u _ (met_yes s k.at k.left a small h e) f refl
+
+-- ---- one turn
 
 -- ---- the loop
 
 -- what is kept from the turn i on
 abbrev pub ahead : List ℕ → List ℕ → List ℕ → List ℕ → ℕ → List ℕ → ℕ → ℕ → Places → ℕ → Clock
-ahead s t vs ka ja kb ib n k i = kept_along (lines_from vs ka ja kb ib i (n - i)) (dots_at s k.x k.xs) (dots_at t k.y k.ys)
+ahead s t vs ka ja kb ib n k i = kept_along (lines_from vs ka ja kb ib i (n - i)) (dots_at s k.x.at k.x.left) (dots_at t k.y.at k.y.left)
 
 pub record Keeping (s t vs ka : List ℕ) (ja : ℕ) (kb : List ℕ) (ib n p ex ey : ℕ) (out₀ : List ℕ) (whole : Clock) (out : List ℕ) (k : Places) (i : ℕ) : Type 0 where
   pub within : i ≤ n
   pub few : k.n ≤ i
-  pub left_edge : k.x + 12 * k.xs ≡ ex
-  pub right_edge : k.y + 12 * k.ys ≡ ey
+  pub left_edge : k.x.at + 12 * k.x.left ≡ ex
+  pub right_edge : k.y.at + 12 * k.y.left ≡ ey
   pub size : length out ≡ length out₀
   pub store : sets out (p + 12 * k.n) (encode_dots (ahead s t vs ka ja kb ib n k i)) ≡ sets out₀ p (encode_dots whole)
   pub count : k.n + length (ahead s t vs ka ja kb ib n k i) ≡ length whole
@@ -109,7 +116,7 @@ module _ {s t vs ka : List ℕ} {ja : ℕ} {kb : List ℕ} {ib n p ex ey : ℕ} 
   unfolding lines_from kept_along
   keep_again lt out' k' d =
       let a = get_or vs i 0 in
-      let w = keep_of (get_or ka (ja + i) 0) (get_or kb (ib + i) 0) (said dots a (dots_at s k.x k.xs)) (said dots a (dots_at t k.y k.ys)) in
+      let w = keep_of (get_or ka (ja + i) 0) (get_or kb (ib + i) 0) (said dots a (dots_at s k.x.at k.x.left)) (said dots a (dots_at t k.y.at k.y.left)) in
       let l = dot_list a w in
       let o = dot? a w in
       let m : n - i ≡ suc (n - (i + 1)) = omega arith in
@@ -139,8 +146,8 @@ module _ {s t vs ka : List ℕ} {ja : ℕ} {kb : List ℕ} {ib n p ex ey : ℕ} 
       let m : n - i ≡ 0 = omega arith in
       record { count = rw (m, add-zero) at z.count; bytes = rw m at z.store }
 
-pub keep_begin : (s t vs ka : List ℕ) (ja : ℕ) (kb : List ℕ) (ib n p x xs y ys : ℕ) (out : List ℕ)
-    → Keeping s t vs ka ja kb ib n p (x + 12 * xs) (y + 12 * ys) out (kept_along (lines_from vs ka ja kb ib 0 n) (dots_at s x xs) (dots_at t y ys)) out (record { x = x; xs = xs; y = y; ys = ys; n = 0 }) 0
-keep_begin s t vs ka ja kb ib n p x xs y ys out =
+pub keep_begin : (s t vs ka : List ℕ) (ja : ℕ) (kb : List ℕ) (ib n p : ℕ) (k : Places) (out : List ℕ) → k.n ≡ 0
+    → Keeping s t vs ka ja kb ib n p (k.x.at + 12 * k.x.left) (k.y.at + 12 * k.y.left) out (kept_along (lines_from vs ka ja kb ib 0 n) (dots_at s k.x.at k.x.left) (dots_at t k.y.at k.y.left)) out k 0
+keep_begin s t vs ka ja kb ib n p k out z =
     let e : n - 0 ≡ n = omega arith in
-    record { within = omega arith; few = omega arith; left_edge = refl; right_edge = refl; size = refl; store = rw (e, mul-zero, add-zero); count = rw (e, zero-add) }
+    record { within = omega arith; few = omega arith; left_edge = refl; right_edge = refl; size = refl; store = rw (e, z, mul-zero, add-zero); count = rw (e, z, zero-add) }

@@ -2,6 +2,7 @@ pub mod AheadSteps
 pub mod KeepSteps
 pub mod WholeSteps
 pub mod RowSteps
+pub mod SameBytes
 pub mod SideSteps
 pub mod SideImage
 pub mod SideHeld
@@ -11,6 +12,7 @@ pub mod NameSteps
 pub mod CopySteps
 pub mod SiftSteps
 pub mod SiftLoop
+pub mod SharedSteps
 pub mod WaitSteps
 pub mod WaitLoop
 pub mod DraftSteps

@@ -1,6 +1,6 @@
 -- What the loops start from, of images that passed the check.
 use Prim.Native.Nat.{ℕ, ◌≤◌, ◌<◌}
-use mathlib.Core.Path.{◌≡◌, refl, ap, ◌∙◌}
+use mathlib.Core.Path.{◌≡◌, refl, ap}
 use mathlib.Core.Bool.{true}
 use mathlib.Core.Option.{some}
 use mathlib.Core.List.{List, [], ◌∷◌, map}
@@ -47,7 +47,7 @@ unfolding image_of_bytes image_in check_image
 held_image s x g e =
     let P = passed s g in
     let n : x.entries ≡ entries_count s = ap (λ (y : Image). y.entries) e in
-    let t = stood s x (e ∙ rw g) (ap (λ (y : Image). y.good) e) in
+    let t = stood s x (rw (g, e)) in
     let l = short s g in
     let h = end_ge s (waits_start_at s) (waits_count s) in
     let r = P.readable_ok in

@@ -10,17 +10,20 @@ use lib.Seq.{sets, slice, sets-eq, take_at, drop_at}
 use borrow.Author.Tests.{ltb-true, ltb-false, lt-ltb, le-ltb, ne_eqb}
 use Rattle.tables.specs.Table.{any}
 use Rattle.tables.specs.Stores.{sets_append}
+use Rattle.std.specs.Prelude.{Option, None, Result, Err, ok_or}
+use Rattle.dots.specs.declared.refusals.Refused.{Refused}
+use Rattle.dots.specs.Answers.{number}
+use Rattle.dots.proofs.AnswersFacts.{number_positive, err_answer}
 use Rattle.clocks.specs.declared.VClock.{VClock}
 use Rattle.clocks.specs.VClock.{dots_of}
 use Rattle.replica.specs.Replica.{Wait, Replica}
 use Rattle.replica.specs.Limits.{full, broken, well_formed}
 use Rattle.layout.specs.Clock.{narrow}
 use Rattle.layout.specs.Rows.{encode_rows, encode_waits}
-use Rattle.layout.specs.Image.{rows_from, waits_from, length_of}
+use Rattle.layout.specs.Image.{rows_from, waits_from, length_of, encode}
 use Rattle.layout.proofs.KitFacts.{length_encode_clock}
 use Rattle.layout.proofs.Round.{length_encode}
 use Rattle.layout.proofs.MainFacts.{at_most}
-use Rattle.results.specs.declared.Written.{Written}
 use Rattle.results.specs.declared.Draft.{Draft}
 use Rattle.results.specs.Call.{Call, number_of, answered, answer_of, output_of, Meets}
 use Rattle.results.specs.Finish.{start_of}
@@ -75,6 +78,14 @@ result_drafted R v d out body clock long room well D =
           ∙ slice_sets out (rows ++ ws) (start_of v) d.end f (omega arith);
     }
 
-pub refused_meets : (c : Call) (before : List ℕ) (n : ℕ) (r : Written) → r ≡ answered n 0 → (n ≡ 0 → ⊥) → number_of full c (length before) ≡ n → Meets full c before r before
+-- a call that refuses
+pub refused_meets : (c : Call) (before : List ℕ) (f : Refused) → number_of full c (length before) ≡ number f → Meets full c before (Err f) before
 unfolding answer_of output_of answered
-refused_meets c before n r e z f = let q = ne_eqb n 0 z in record { answer = e ∙ rw (f, q); output = rw (f, q) }
+refused_meets c before f e =
+    let p = number_positive f in
+    let q = ne_eqb (number f) 0 (λ z. omega arith) in
+    record { answer = sym (rw e (err_answer f (length (encode c.result)))); output = rw (e, q) }
+
+-- the refusal that stands for no value
+pub unread : {A : Type 0} (o : Option A) (f : Refused) {r : Refused} → o ≡ None → Err r ≡ ok_or o f → r ≡ f
+unread {A} o f {r} n e = let g : ◌≡◌ {A = Result A Refused} (Err r) (Err f) = rw n at e in cc

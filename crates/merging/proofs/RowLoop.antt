@@ -1,13 +1,13 @@
 -- The loop over the entries of two images.
 use Prim.Native.Nat.{ℕ, zero, suc, ◌+◌, ◌*◌, ◌%◌, ◌≤◌, ◌<◌, min}
-use mathlib.Core.Path.{◌≡◌, refl, sym, ap, ap₂, ◌∙◌}
+use mathlib.Core.Path.{◌≡◌, refl, sym, ap, ap₂, ◌∙◌, subst}
 use mathlib.Core.Logic.{◌⊎◌, inl, inr}
 use mathlib.Core.Bool.{Bool, true, false}
 use mathlib.Core.List.{List, [], ◌∷◌}
 use native.Mathlib.Omega.{arith}
 use native.Mathlib.Nat.{add-zero, zero-add}
 use lib.Dec.{eqb}
-use lib.ListN.{length, get_or, take, drop, length-append}
+use lib.ListN.{length, get_or, drop, length-append}
 use lib.Seq.{sets, length-sets}
 use borrow.Author.Tests.{eqb-true, le-ltb}
 use Rattle.tables.specs.Table.{All, pick, cons?}
@@ -24,8 +24,8 @@ use Rattle.merging.specs.declared.entries.Rows.{Rows}
 use Rattle.merging.specs.Ahead.{key_ahead, front_ahead, wrote, length_cons, bytes_cons}
 use Rattle.changing.specs.Kept.{keep_of, line_of, kept_clock, kept_entries}
 use Rattle.merging.specs.Keeping.{lines_from, kept_along}
-use Rattle.merging.specs.Rowing.{RowsAhead, Side, Ready, turn_entry, MergedRow, WroteRows}
-use Rattle.merging.proofs.WholeSteps.{actors_from, actors_take}
+use Rattle.merging.specs.Rowing.{Side, Ready, turn_entry, MergedRow, WroteRows}
+use Rattle.merging.proofs.WholeSteps.{actors_from, actors_all}
 
 -- ---- the lines of a member
 
@@ -67,19 +67,19 @@ module _ (vs ka : List ℕ) (ja : ℕ) (kb : List ℕ) (ib N : ℕ) (f g : ℕ �
 -- ---- the invariant
 
 abbrev pub rows_left : List ℕ → Replica → Replica → List ℕ → List ℕ → Rows → List Entry
-rows_left cs A B s t w = zip entries (kept_clock cs A B) (rows_at s w.p w.m) (rows_at t w.q w.k)
+rows_left cs A B s t w = zip entries (kept_clock cs A B) (rows_at s w.x.at w.x.left) (rows_at t w.y.at w.y.left)
 
 pub record Rowing (cs : List ℕ) (A B : Replica) (s t : List ℕ) (m k at : ℕ) (ea eb : ℕ) (out₀ out : List ℕ) (w : Rows) : Type 0 where
-  pub left : rows_at s w.p w.m ≡ drop w.i A.entries
-  pub right : rows_at t w.q w.k ≡ drop w.j B.entries
-  pub left_edge : rows_end_at s w.p w.m ≡ ea
-  pub right_edge : rows_end_at t w.q w.k ≡ eb
-  pub left_step : w.i + w.m ≡ m
-  pub right_step : w.j + w.k ≡ k
-  pub left_rise : Rise entry_rows (rows_at s w.p w.m)
-  pub right_rise : Rise entry_rows (rows_at t w.q w.k)
-  pub room : w.at ≤ at + 200 * (w.i + w.j)
-  pub few : w.n ≤ w.i + w.j
+  pub left : rows_at s w.x.at w.x.left ≡ drop w.x.gone A.entries
+  pub right : rows_at t w.y.at w.y.left ≡ drop w.y.gone B.entries
+  pub left_edge : rows_end_at s w.x.at w.x.left ≡ ea
+  pub right_edge : rows_end_at t w.y.at w.y.left ≡ eb
+  pub left_step : w.x.gone + w.x.left ≡ m
+  pub right_step : w.y.gone + w.y.left ≡ k
+  pub left_rise : Rise entry_rows (rows_at s w.x.at w.x.left)
+  pub right_rise : Rise entry_rows (rows_at t w.y.at w.y.left)
+  pub room : w.at ≤ at + 200 * (w.x.gone + w.y.gone)
+  pub few : w.n ≤ w.x.gone + w.y.gone
   pub size : length out ≡ length out₀
   pub count : w.n + length (rows_left cs A B s t w) ≡ length (kept_entries cs A B)
   pub ends : w.at + length (encode_rows (rows_left cs A B s t w)) ≡ at + length (encode_rows (kept_entries cs A B))
@@ -109,13 +109,13 @@ past_drop es (x ∷ xs) i i' m m' low e l s p = go (eqb x.member low) p
     go false p = let z : i ≡ i' = omega arith in rw (← z) e
 
 -- the lines that the turn reads for the member low
-lines_at : (A : Replica) (s : List ℕ) (p m : ℕ) (vs k : List ℕ) (n : ℕ) (es : List Entry) → Side A s p m vs k n es
+lines_at : (A : Replica) (s : List ℕ) (p m : ℕ) (vs k : List ℕ) (es : List Entry) → Side A s p m vs k es
     → (low j : ℕ) (rows : List Entry) → rows ≡ drop j es → j + length rows ≤ 64
-    → Or (said entry_rows low rows) (λ i. i < n → get_or k (16 * (j % 64) + i) 0 ≡ line_of A low (get_or vs i 0))
-lines_at A s p m vs k n es h low j [] e f = inl refl
-lines_at A s p m vs k n es h low j (r ∷ rows) e f = go (eqb r.member low) refl
+    → Or (said entry_rows low rows) (λ i. i < length vs → get_or k (16 * (j % 64) + i) 0 ≡ line_of A low (get_or vs i 0))
+lines_at A s p m vs k es h low j [] e f = inl refl
+lines_at A s p m vs k es h low j (r ∷ rows) e f = go (eqb r.member low) refl
   where
-    go : (b : Bool) → eqb r.member low ≡ b → Or (pick b r.clock []) (λ i. i < n → get_or k (16 * (j % 64) + i) 0 ≡ line_of A low (get_or vs i 0))
+    go : (b : Bool) → eqb r.member low ≡ b → Or (pick b r.clock []) (λ i. i < length vs → get_or k (16 * (j % 64) + i) 0 ≡ line_of A low (get_or vs i 0))
     go false b = inl refl
     go true b = inr (λ i l.
         let z : j % 64 ≡ j = omega arith in
@@ -127,31 +127,28 @@ all_drop P zero rs h = h
 all_drop P (suc i) [] h = tt
 all_drop P (suc i) (r ∷ rs) h = all_drop P i rs h.1
 
-module _ (A B : Replica) (s : List ℕ) (p m : ℕ) (t : List ℕ) (q k : ℕ) (vs : List ℕ) (n : ℕ) (ka kb : List ℕ) (R : Ready A B s p m t q k vs n ka kb) where
-  abbrev cs : List ℕ
-  cs = take n vs
-
+module _ (A B : Replica) (s t vs ka kb : List ℕ) (u : Rows) (R : Ready A B s t vs ka kb u) where
   -- the turn's entry is the kept one
-  turn_kept : (low : ℕ) (w : Rows) (xs ys : List Entry) → xs ≡ drop w.i A.entries → ys ≡ drop w.j B.entries → w.i + length xs ≤ 64 → w.j + length ys ≤ 64
-      → turn_entry vs n ka kb low w xs ys ≡ entry? low (kept_clock cs A B low (said entry_rows low xs) (said entry_rows low ys))
+  turn_kept : (low : ℕ) (w : Rows) (xs ys : List Entry) → xs ≡ drop w.x.gone A.entries → ys ≡ drop w.y.gone B.entries → w.x.gone + length xs ≤ 64 → w.y.gone + length ys ≤ 64
+      → turn_entry vs ka kb low w xs ys ≡ entry? low (kept_clock vs A B low (said entry_rows low xs) (said entry_rows low ys))
   unfolding kept_clock
   turn_kept low w xs ys ex ey fx fy = ap (entry? low)
-      (lines_walked vs ka (16 * (w.j % 64)) kb (16 * (w.i % 64)) n (line_of A low) (line_of B low) 0 n (said entry_rows low xs) (said entry_rows low ys) (omega arith)
-      (lines_at B t q k vs kb n A.entries R.theirs low w.i xs ex fx)
-      (lines_at A s p m vs ka n B.entries R.ours low w.j ys ey fy)
-      ∙ ap (λ (l : List ℕ). walked dots (λ a. keep_of (line_of A low a) (line_of B low a)) l (said entry_rows low xs) (said entry_rows low ys)) (actors_take vs 0 n (let l = R.long in omega arith)))
+      (lines_walked vs ka (16 * (w.y.gone % 64)) kb (16 * (w.x.gone % 64)) (length vs) (line_of A low) (line_of B low) 0 (length vs) (said entry_rows low xs) (said entry_rows low ys) (omega arith)
+      (lines_at B t u.y.at u.y.left vs kb A.entries R.theirs low w.x.gone xs ex fx)
+      (lines_at A s u.x.at u.x.left vs ka B.entries R.ours low w.y.gone ys ey fy)
+      ∙ ap (λ (l : List ℕ). walked dots (λ a. keep_of (line_of A low a) (line_of B low a)) l (said entry_rows low xs) (said entry_rows low ys)) (actors_all vs))
 
-  pub rows_begin : (at : ℕ) (out : List ℕ) → Rowing cs A B s t m k at (rows_end_at s p m) (rows_end_at t q k) out out (record { p = p; m = m; i = 0; q = q; k = k; j = 0; at = at; n = 0 })
+  pub rows_begin : (out : List ℕ) → Rowing vs A B s t u.x.left u.y.left u.at (rows_end_at s u.x.at u.x.left) (rows_end_at t u.y.at u.y.left) out out u
   unfolding kept_entries
-  rows_begin at out =
+  rows_begin out = subst (λ (w : Rows). Rowing vs A B s t u.x.left u.y.left u.at (rows_end_at s u.x.at u.x.left) (rows_end_at t u.y.at u.y.left) out out w) (sym R.start) (
       let a = R.ours.rows in let b = R.theirs.rows in
       record {
         left = a;
         right = b;
         left_edge = refl;
         right_edge = refl;
-        left_step = zero-add m;
-        right_step = zero-add k;
+        left_step = zero-add u.x.left;
+        right_step = zero-add u.y.left;
         left_rise = R.ours.rise;
         right_rise = R.theirs.rise;
         room = omega arith;
@@ -160,35 +157,24 @@ module _ (A B : Replica) (s : List ℕ) (p m : ℕ) (t : List ℕ) (q k : ℕ) (
         count = rw (a, b, zero-add);
         ends = rw (a, b);
         store = rw (a, b);
-      }
+      })
 
-  module _ {at : ℕ} {out₀ out : List ℕ} {w : Rows} (z : Rowing cs A B s t m k at (rows_end_at s p m) (rows_end_at t q k) out₀ out w) where
-    -- the rows ahead
-    pub left_ahead : RowsAhead s w.p w.m cs
-    left_ahead =
-        let a = R.ours.ahead in
-        record { edge = rw z.left_edge a.edge; room = rw z.left_edge a.room; goes = rw z.left (all_drop _ w.i A.entries (rw R.ours.rows at a.goes)) }
-
-    pub right_ahead : RowsAhead t w.q w.k cs
-    right_ahead =
-        let a = R.theirs.ahead in
-        record { edge = rw z.right_edge a.edge; room = rw z.right_edge a.room; goes = rw z.right (all_drop _ w.j B.entries (rw R.theirs.rows at a.goes)) }
-
-    pub rows_again : (out' : List ℕ) (w' : Rows) → MergedRow s t vs n ka kb (min (key_ahead s w.p w.m) (key_ahead t w.q w.k)) out w out' w'
-        → Rowing cs A B s t m k at (rows_end_at s p m) (rows_end_at t q k) out₀ out' w'
+  module _ {out₀ out : List ℕ} {w : Rows} (z : Rowing vs A B s t u.x.left u.y.left u.at (rows_end_at s u.x.at u.x.left) (rows_end_at t u.y.at u.y.left) out₀ out w) where
+    pub rows_again : (out' : List ℕ) (w' : Rows) → MergedRow s t vs ka kb (min (key_ahead s w.x.at w.x.left) (key_ahead t w.y.at w.y.left)) out w out' w'
+        → Rowing vs A B s t u.x.left u.y.left u.at (rows_end_at s u.x.at u.x.left) (rows_end_at t u.y.at u.y.left) out₀ out' w'
     rows_again out' w' d =
         let small = d.small in
-        let low = min (key_ahead s w.p w.m) (key_ahead t w.q w.k) in
-        let xs = rows_at s w.p w.m in
-        let ys = rows_at t w.q w.k in
-        let h = kept_clock cs A B in
+        let low = min (key_ahead s w.x.at w.x.left) (key_ahead t w.y.at w.y.left) in
+        let xs = rows_at s w.x.at w.x.left in
+        let ys = rows_at t w.y.at w.y.left in
+        let h = kept_clock vs A B in
         let o = entry? low (h low (said entry_rows low xs) (said entry_rows low ys)) in
-        let lx = length_list_at row_at row_end s w.p w.m in
-        let ly = length_list_at row_at row_end t w.q w.k in
+        let lx = length_list_at row_at row_end s w.x.at w.x.left in
+        let ly = length_list_at row_at row_end t w.y.at w.y.left in
         let ls = z.left_step in let rs = z.right_step in let fa = R.ours.few in let fb = R.theirs.few in
-        let e : turn_entry vs n ka kb low w xs ys ≡ o = turn_kept low w xs ys z.left z.right (omega arith) (omega arith) in
-        let step : zip entries h xs ys ≡ cons? o (rows_left cs A B s t w') =
-        zip_step entry_rows h 4294967296 low xs ys z.left_rise z.right_rise small (ap₂ min (front_ahead entry_rows row_at row_end keyed s w.p w.m) (front_ahead entry_rows row_at row_end keyed t w.q w.k))
+        let e : turn_entry vs ka kb low w xs ys ≡ o = turn_kept low w xs ys z.left z.right (omega arith) (omega arith) in
+        let step : zip entries h xs ys ≡ cons? o (rows_left vs A B s t w') =
+        zip_step entry_rows h 4294967296 low xs ys z.left_rise z.right_rise small (ap₂ min (front_ahead entry_rows row_at row_end keyed s w.x.at w.x.left) (front_ahead entry_rows row_at row_end keyed t w.y.at w.y.left))
         ∙ ap (cons? o) (ap₂ (zip entries h) (sym d.left) (sym d.right)) in
         let one = length_some low (h low (said entry_rows low xs) (said entry_rows low ys)) in
         let mv = d.moves in let fw = z.few in let sh = d.short in let ro = z.room in
@@ -196,8 +182,8 @@ module _ (A B : Replica) (s : List ℕ) (p m : ℕ) (t : List ℕ) (q k : ℕ) (
         let en : w'.at ≡ w.at + length (encode_rows (cons? o [])) = rw e at d.ends in
         let by : out' ≡ sets out w.at (encode_rows (cons? o [])) = rw e at d.bytes in
         record {
-          left = d.left ∙ past_drop A.entries xs w.i w'.i w.m w'.m low z.left lx d.left_step (ap length (sym d.left) ∙ length_list_at row_at row_end s w'.p w'.m);
-          right = d.right ∙ past_drop B.entries ys w.j w'.j w.k w'.k low z.right ly d.right_step (ap length (sym d.right) ∙ length_list_at row_at row_end t w'.q w'.k);
+          left = d.left ∙ past_drop A.entries xs w.x.gone w'.x.gone w.x.left w'.x.left low z.left lx d.left_step (ap length (sym d.left) ∙ length_list_at row_at row_end s w'.x.at w'.x.left);
+          right = d.right ∙ past_drop B.entries ys w.y.gone w'.y.gone w.y.left w'.y.left low z.right ly d.right_step (ap length (sym d.right) ∙ length_list_at row_at row_end t w'.y.at w'.y.left);
           left_edge = d.left_edge ∙ z.left_edge;
           right_edge = d.right_edge ∙ z.right_edge;
           left_step = d.left_step ∙ z.left_step;
@@ -207,19 +193,19 @@ module _ (A B : Replica) (s : List ℕ) (p m : ℕ) (t : List ℕ) (q k : ℕ) (
           room = omega arith;
           few = omega arith;
           size = ap length by ∙ length-sets out w.at (encode_rows (cons? o [])) ∙ z.size;
-          count = let f = length_cons encode_row o (rows_left cs A B s t w') in let g = ap length step in let c = z.count in omega arith;
-          ends = let f : length (encode_rows (cons? o (rows_left cs A B s t w'))) ≡ length (encode_rows (cons? o [])) + length (encode_rows (rows_left cs A B s t w')) = ap length (bytes_cons encode_row o (rows_left cs A B s t w')) ∙ simp length-append in
+          count = let f = length_cons encode_row o (rows_left vs A B s t w') in let g = ap length step in let c = z.count in omega arith;
+          ends = let f : length (encode_rows (cons? o (rows_left vs A B s t w'))) ≡ length (encode_rows (cons? o [])) + length (encode_rows (rows_left vs A B s t w')) = ap length (bytes_cons encode_row o (rows_left vs A B s t w')) ∙ simp length-append in
               let g = ap (λ (l : List Entry). length (encode_rows l)) step in let c = z.ends in omega arith;
-          store = rw (by, en) (wrote encode_row out w.at o (rows_left cs A B s t w')) ∙ ap (λ (l : List Entry). sets out w.at (encode_rows l)) (sym step) ∙ z.store;
+          store = rw (by, en) (wrote encode_row out w.at o (rows_left vs A B s t w')) ∙ ap (λ (l : List Entry). sets out w.at (encode_rows l)) (sym step) ∙ z.store;
         }
 
-    pub rows_end : w.m + w.k ≡ 0 → WroteRows out₀ at (kept_entries cs A B) out w.n w.at
+    pub rows_end : w.x.left + w.y.left ≡ 0 → WroteRows out₀ u.at (kept_entries vs A B) out w.n w.at
     unfolding list_at bytes_of
     rows_end e =
-        let em : w.m ≡ 0 = omega arith in
-        let ek : w.k ≡ 0 = omega arith in
+        let em : w.x.left ≡ 0 = omega arith in
+        let ek : w.y.left ≡ 0 = omega arith in
         let fw = z.few in let ro = z.room in let ls = z.left_step in let rs = z.right_step in let fa = R.ours.few in let fb = R.theirs.few in
-        let nil : rows_left cs A B s t w ≡ [] = rw (em, ek) (zip_nil entries (kept_clock cs A B)) in
+        let nil : rows_left vs A B s t w ≡ [] = rw (em, ek) (zip_nil entries (kept_clock vs A B)) in
         record {
           count = rw (nil, add-zero) at z.count;
           ends = rw (nil, add-zero) at z.ends;

@@ -6,7 +6,7 @@ use mathlib.Core.List.{List, [], ◌∷◌, ◌++◌, append_assoc}
 use native.Mathlib.Omega.{arith}
 use native.Mathlib.Nat.{add-zero, add-suc, suc-add}
 use lib.Dec.{eqb}
-use lib.ListN.{length, set, length-append}
+use lib.ListN.{length, set, take, drop, length-append}
 use lib.Seq.{sets, set_comm}
 use borrow.Author.Tests.{eq-eqb, ne_eqb}
 use Rattle.tables.specs.Table.{pick, cons?}
@@ -19,12 +19,16 @@ use Rattle.layout.proofs.FieldsFacts.{length_le32}
 use Rattle.layout.specs.Lists.{list_at, end_after, bytes_of}
 use Rattle.layout.specs.Clock.{dots_at, encode_dots, clock_in, clock_end_in, encode_clock_in}
 use Rattle.layout.specs.Rows.{row_in, row_end_in, row_at, row_end, rows_at, rows_end_at, encode_rows, encode_row_in}
+use Rattle.merging.specs.declared.entries.Dots.{Dots}
+use Rattle.merging.specs.declared.entries.Hand.{Hand}
 use Rattle.merging.specs.declared.entries.Rows.{Rows}
-use Rattle.merging.specs.Ahead.{key_ahead, KeyAhead, hits, Met, said_ahead, past_ahead}
-use Rattle.merging.specs.Keeping.{KeptDots, lines_from, kept_along}
+use Rattle.merging.specs.Ahead.{key_ahead, hits, Met, said_ahead, past_ahead}
+use Rattle.merging.specs.Keeping.{KeptDots, Line, lines_from, kept_along}
 use Rattle.changing.specs.Kept.{met_along}
-use Rattle.merging.specs.Rowing.{Goes, RowsAhead, MergedRow}
+use Rattle.merging.specs.Rowing.{Goes, RowsAhead, TookRow, MergedRow}
+use Rattle.merging.proofs.AheadSteps.{met_none, met_yes, met_no}
 use Rattle.merging.proofs.KeepSteps.{length_dots}
+use Rattle.merging.proofs.WholeSteps.{lines_part}
 
 -- ---- a run of stores before another
 
@@ -110,46 +114,55 @@ row_side s p m low i xs small h e =
     let q = h.is small in
     rw (e, q) (side_by s p m low small (eqb (key_ahead s p m) low) refl (rw q at h.fits))
 
--- the numbers of a turn are small, and its dots inside
-pub record RowNumbers (s t : List ℕ) (w : Rows) (i j xs ys : ℕ) : Type 0 where
-  pub left_one : i ≤ 1
-  pub right_one : j ≤ 1
-  pub left_fits : i ≤ w.m
-  pub right_fits : j ≤ w.k
-  pub left_room : w.p + 8 * i + 12 * xs < 4294967296
-  pub right_room : w.q + 8 * j + 12 * ys < 4294967296
-  pub left_inside : w.p + 8 * i + 12 * xs ≤ length s
-  pub right_inside : w.q + 8 * j + 12 * ys ≤ length t
-
-pub row_numbers : (s t : List ℕ) (w : Rows) (low i j xs ys : ℕ) (cs : List ℕ) → RowsAhead s w.p w.m cs → RowsAhead t w.q w.k cs → RowSide s w.p w.m low i xs → RowSide t w.q w.k low j ys
-    → RowNumbers s t w i j xs ys
-row_numbers s t w low i j xs ys cs p q a b = let ea = p.edge in let eb = q.edge in let ra = p.room in let rb = q.room in let ia = a.room in let ib = b.room in record {
-  left_one = a.one;
-  right_one = b.one;
-  left_fits = a.fits;
-  right_fits = b.fits;
-  left_room = omega arith;
-  right_room = omega arith;
-  left_inside = omega arith;
-  right_inside = omega arith;
-}
-
 -- a walk along the actors meets all dots of the row
-met_none : (cs : List ℕ) → met_along cs [] ≡ []
+meets_none : (cs : List ℕ) → met_along cs [] ≡ []
 unfolding walked
-met_none [] = refl
-met_none (c ∷ cs) = met_none cs
+meets_none [] = refl
+meets_none (c ∷ cs) = meets_none cs
 
 goes_said : (cs : List ℕ) (low : ℕ) (es : List Entry) → Goes cs es → met_along cs (said entry_rows low es) ≡ said entry_rows low es
-goes_said cs low [] g = met_none cs
+goes_said cs low [] g = meets_none cs
 goes_said cs low (e ∷ es) g = go (eqb e.member low)
   where
     go : (b : Bool) → met_along cs (pick b e.clock []) ≡ pick b e.clock []
     go true = g.0
-    go false = met_none cs
+    go false = meets_none cs
 
-pub row_goes : (cs s : List ℕ) (p m low i xs : ℕ) → RowsAhead s p m cs → RowSide s p m low i xs → met_along cs (dots_at s (p + 8 * i) xs) ≡ dots_at s (p + 8 * i) xs
-row_goes cs s p m low i xs h a = rw a.dots (goes_said cs low (rows_at s p m) h.goes)
+pub row_goes : (cs s : List ℕ) (low : ℕ) (h h' : Hand) (d : Dots) → RowsAhead s h.at h.left cs → TookRow s low h h' d → met_along cs (dots_at s d.at d.left) ≡ dots_at s d.at d.left
+row_goes cs s low h h' d r t = rw t.dots (goes_said cs low (rows_at s h.at h.left) r.goes)
+
+-- ---- a step of a hand
+
+-- the next row ends inside
+pub row_inside : (s : List ℕ) (p m : ℕ) → 0 < m → p + 8 + 12 * u32_at s (p + 4) ≤ rows_end_at s p m
+row_inside s p zero h = absurd (omega arith)
+row_inside s p (suc m) h = let e = row_end_is s p in let f = end_step s p m in omega arith
+
+module _ (s : List ℕ) (low : ℕ) (h : Hand) (small : low < 4294967296) where
+  took_row : (h' : Hand) (d : Dots) (i : ℕ) → Met s h.at h.left low i → d.at ≡ h.at + 8 * i → d.left ≡ pick (eqb i 0) 0 (u32_at s (h.at + 4))
+      → h'.at ≡ h.at + 8 * i + 12 * d.left → h'.left ≡ h.left - i → h'.gone ≡ h.gone + i → TookRow s low h h' d
+  took_row h' d i m da dl ha hl hg =
+      let a = row_side s h.at h.left low i d.left small m dl in
+      let f = a.fits in
+      record {
+        rows = rw (ha, hl) a.rows;
+        edge = rw (ha, hl) a.edge;
+        dots = rw da a.dots;
+        inside = rw da a.room;
+        step = omega arith;
+        on = omega arith;
+        hit = λ e. let one : ◌≡◌ {A = ℕ} i 1 = m.is small ∙ rw (eq-eqb (key_ahead s h.at h.left) low e) in omega arith;
+      }
+
+  pub row_none : h.left ≡ 0 → TookRow s low h h (record { at = h.at; left = 0 })
+  row_none e = took_row h (record { at = h.at; left = 0 }) 0 (met_none s h.at h.left low small e) (omega arith) refl (omega arith) (omega arith) (omega arith)
+
+  pub row_other : (h.left ≡ 0 → ⊥) → (u32_at s h.at ≡ low → ⊥) → TookRow s low h h (record { at = h.at; left = 0 })
+  row_other g e = took_row h (record { at = h.at; left = 0 }) 0 (met_no s h.at h.left low small g e) (omega arith) refl (omega arith) (omega arith) (omega arith)
+
+  pub row_this : (h.left ≡ 0 → ⊥) → u32_at s h.at ≡ low → (h' : Hand) (d : Dots) → d.at ≡ h.at + 8 → d.left ≡ u32_at s (h.at + 4) → h'.at ≡ h.at + 8 + 12 * d.left → h'.left + 1 ≡ h.left → h'.gone ≡ h.gone + 1
+      → TookRow s low h h' d
+  row_this g e h' d da dl ha hl hg = took_row h' d 1 (met_yes s h.at h.left low small g e) (omega arith) dl (omega arith) (omega arith) hg
 
 -- one of the two sides is met
 pub met_one : (s : List ℕ) (p m : ℕ) (t : List ℕ) (q k low i j : ℕ) → low ≡ min (key_ahead s p m) (key_ahead t q k) → low < 4294967296 → Met s p m low i → Met t q k low j → 0 < i + j
@@ -189,58 +202,46 @@ row_put out at low (d ∷ K) c out' out'' k e =
 
 -- ---- the turn
 
-module _ (s t vs : List ℕ) (n : ℕ) (ka kb out : List ℕ) (w : Rows) (low : ℕ) (least : low ≡ min (key_ahead s w.p w.m) (key_ahead t w.q w.k)) (small : low < 4294967296) where
-  pub merged_row : (i j xs ys c long one : ℕ) (mid out' : List ℕ) → Met s w.p w.m low i → Met t w.q w.k low j
-      → xs ≡ pick (eqb i 0) 0 (u32_at s (w.p + 4)) → ys ≡ pick (eqb j 0) 0 (u32_at t (w.q + 4))
-      → c ≤ 16 → KeptDots out (w.at + 8) (kept_along (lines_from vs ka (16 * (w.j % 64)) kb (16 * (w.i % 64)) 0 n) (dots_at s (w.p + 8 * i) xs) (dots_at t (w.q + 8 * j) ys)) mid c
-      → long ≡ pick (eqb c 0) 0 (8 + 12 * c) → out' ≡ sets mid w.at (pick (eqb c 0) [] (le32 low ++ le32 c)) → one ≡ pick (eqb c 0) 0 1
-      → MergedRow s t vs n ka kb (min (key_ahead s w.p w.m) (key_ahead t w.q w.k)) out w out'
-      (record { p = w.p + 8 * i + 12 * xs; m = w.m - i; i = w.i + i; q = w.q + 8 * j + 12 * ys; k = w.k - j; j = w.j + j; at = w.at + long; n = w.n + one })
-  merged_row i j xs ys c long one mid out' mi mj ex ey cf kd el eo en =
-      let a = row_side s w.p w.m low i xs small mi ex in
-      let b = row_side t w.q w.k low j ys small mj ey in
+module _ (s t vs ka kb out : List ℕ) (w : Rows) (low : ℕ) (least : low ≡ min (key_ahead s w.x.at w.x.left) (key_ahead t w.y.at w.y.left)) (small : low < 4294967296) where
+  pub merged_row : (x' y' : Hand) (dx dy : Dots) (c : ℕ) (mid out' : List ℕ) (w' : Rows) → TookRow s low w.x x' dx → TookRow t low w.y y' dy
+      → c ≤ 16 → KeptDots out (w.at + 8) (kept_along (lines_from vs ka (16 * (w.y.gone % 64)) kb (16 * (w.x.gone % 64)) 0 (length vs)) (dots_at s dx.at dx.left) (dots_at t dy.at dy.left)) mid c
+      → w'.x ≡ x' → w'.y ≡ y' → w'.at ≡ w.at + pick (eqb c 0) 0 (8 + 12 * c) → w'.n ≡ w.n + pick (eqb c 0) 0 1 → out' ≡ sets mid w.at (pick (eqb c 0) [] (le32 low ++ le32 c))
+      → MergedRow s t vs ka kb (min (key_ahead s w.x.at w.x.left) (key_ahead t w.y.at w.y.left)) out w out' w'
+  merged_row x' y' dx dy c mid out' w' a b cf kd ex ey el en eo =
       let kd' = rw (a.dots, b.dots) at kd in
       let r = row_put out w.at low _ c mid out' kd' eo in
-      let g = met_one s w.p w.m t w.q w.k low i j least small mi mj in
-      let fa = a.fits in let fb = b.fits in
-      subst (λ (l : ℕ). MergedRow s t vs n ka kb l out w out' next) least record {
+      let ax = a.on in let bx = b.on in let sx = a.step in let sy = b.step in
+      subst (λ (l : ℕ). MergedRow s t vs ka kb l out w out' w') least record {
         small = small;
-        left = a.rows;
-        right = b.rows;
-        left_edge = a.edge;
-        right_edge = b.edge;
-        left_step = omega arith;
-        right_step = omega arith;
-        moves = omega arith;
-        count = ap (λ (x : ℕ). w.n + x) (en ∙ r.count);
-        ends = ap (λ (x : ℕ). w.at + x) (el ∙ r.ends);
+        left = rw ex a.rows;
+        right = rw ey b.rows;
+        left_edge = rw ex a.edge;
+        right_edge = rw ey b.edge;
+        left_step = rw ex sx;
+        right_step = rw ey sy;
+        moves = rw (ex, ey) (by_lt (key_ahead s w.x.at w.x.left) (key_ahead t w.y.at w.y.left) (λ h. let g = a.hit (omega arith) in omega arith) (λ h. let g = b.hit (omega arith) in omega arith));
+        count = en ∙ ap (λ (x : ℕ). w.n + x) r.count;
+        ends = el ∙ ap (λ (x : ℕ). w.at + x) r.ends;
         short = rw el (short (eqb c 0) c cf);
         bytes = r.bytes;
       }
     where
-      next : Rows
-      next = record { p = w.p + 8 * i + 12 * xs; m = w.m - i; i = w.i + i; q = w.q + 8 * j + 12 * ys; k = w.k - j; j = w.j + j; at = w.at + long; n = w.n + one }
-
       short : (b : Bool) (c : ℕ) → c ≤ 16 → w.at + pick b 0 (8 + 12 * c) ≤ w.at + 200
       short true c h = omega arith
       short false c h = omega arith
 
--- where anything is left, the lowest key is a key
-pub least_small : (s : List ℕ) (p m : ℕ) (t : List ℕ) (q k f g : ℕ) → 0 < m + k → KeyAhead s p m f → KeyAhead t q k g → min f g < 4294967296
-least_small s p m t q k f g h a b = by_lt 0 m (λ l. let x = a.small l in omega arith) (λ l. let y = b.small (omega arith) in omega arith)
-
 -- ---- numbers of the turn
+
+-- a part of 16 numbers of each side's lines serves as the lines from its place on
+pub part_kept : (vs ka : List ℕ) (a : ℕ) (kb : List ℕ) (b : ℕ) → length vs ≤ 16 → (out : List ℕ) (p : ℕ) (x y : Clock) (out' : List ℕ) (c : ℕ)
+    → KeptDots out p (kept_along (lines_from vs (take (a + 16 - a) (drop a ka)) 0 (take (b + 16 - b) (drop b kb)) 0 0 (length vs)) x y) out' c → KeptDots out p (kept_along (lines_from vs ka a kb b 0 (length vs)) x y) out' c
+part_kept vs ka a kb b few out p x y out' c k =
+    let e = lines_part vs ka a (a + 16 - a) kb b (b + 16 - b) 0 (length vs) (omega arith) (omega arith) in
+    subst (λ (ls : List Line). KeptDots out p (kept_along ls x y) out' c) e k
 
 pub head_short : (c long : ℕ) → c ≤ 16 → long ≡ pick (eqb c 0) 0 (8 + 12 * c) → long ≤ 200
 head_short c long h e = rw e (go (eqb c 0))
   where
     go : (b : Bool) → pick b 0 (8 + 12 * c) ≤ 200
-    go true = omega arith
-    go false = omega arith
-
-pub some_one : (c r : ℕ) → r ≡ pick (eqb c 0) 0 1 → r ≤ 1
-some_one c r e = rw e (go (eqb c 0))
-  where
-    go : (b : Bool) → ◌≤◌ (pick b 0 1) 1
     go true = omega arith
     go false = omega arith

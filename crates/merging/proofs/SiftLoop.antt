@@ -1,14 +1,14 @@
 -- What stays of one image's entries beside a side that has none: the rows ahead, a run of rows that stay as they are, and what all of it is.
 use Prim.Native.Nat.{ℕ, suc, ◌+◌, ◌*◌, ◌-◌, ◌≤◌, ◌<◌}
-use mathlib.Core.Path.{◌≡◌, refl, sym, ap, ap₂, ◌∙◌}
+use mathlib.Core.Path.{◌≡◌, refl, sym, ap, ap₂, ◌∙◌, subst}
 use mathlib.Core.Logic.{inl, inr}
 use mathlib.Core.Bool.{Bool}
 use mathlib.Core.Option.{some}
 use mathlib.Core.List.{List, [], ◌∷◌, ◌++◌, append_assoc}
 use native.Mathlib.Omega.{arith}
 use native.Mathlib.Nat.{add-zero, zero-add}
-use lib.ListN.{length, get_or, take, drop, length-append, length-take}
-use lib.Seq.{sets, length-sets, slice, slice_empty, length-slice, take-add, drop_at, drop-append-le, length-take-le}
+use lib.ListN.{length, get_or, take, drop, length-append}
+use lib.Seq.{sets, slice, slice_empty, length-slice, take-add, drop_at, drop-append-le, length-take-le}
 use Rattle.tables.specs.Table.{cons?}
 use Rattle.tables.specs.Zip.{zip, tail, Rise, zip_nil, zip_left}
 use Rattle.tables.specs.Walk.{walked}
@@ -22,11 +22,12 @@ use Rattle.layout.specs.Clock.{narrow, dot_end_in, dot_at, dots_at, clock_in}
 use Rattle.layout.specs.Rows.{row_in, row_at, row_end, rows_at, encode_row, encode_rows}
 use Rattle.layout.proofs.Form.{length_list_at}
 use Rattle.layout.proofs.Parts.{row_laws}
+use Rattle.merging.specs.declared.entries.Hand.{Hand}
 use Rattle.merging.specs.declared.entries.Rows.{Rows}
 use Rattle.changing.specs.Kept.{keep_of, line_of, kept_clock, kept_entries}
 use Rattle.merging.specs.Rowing.{WroteRows}
-use Rattle.merging.specs.Sifting.{line_for, sifted, sifted_rows, rows_ahead, SiftReady, Moved, Passed, Sifted}
-use Rattle.merging.proofs.WholeSteps.{actors_take}
+use Rattle.merging.specs.Sifting.{line_for, sifted, sifted_rows, rows_ahead, Moved, Passed, Sifted}
+use Rattle.merging.proofs.WholeSteps.{actors_all}
 use Rattle.merging.proofs.RowSteps.{row_end_is}
 use Rattle.merging.proofs.RowLoop.{lines_walked, drop_tail}
 use Rattle.merging.proofs.CopySteps.{copied_is}
@@ -34,11 +35,11 @@ use Rattle.merging.proofs.SiftSteps.{FirstRow, row_of, row_past, ahead_step, row
 
 -- ---- the rows ahead
 
-module _ {s vs : List ℕ} {n : ℕ} {l : List ℕ} {own : Bool} where
-  pub moved_none : {w : Rows} → Moved s vs n l own w w
+module _ {s vs l : List ℕ} {own : Bool} where
+  pub moved_none : {w : Rows} → Moved s vs l own w w
   moved_none = record { edge = refl; goes = λ h. h; step = refl; on = omega arith; room = omega arith; few = omega arith; count = refl }
 
-  pub moved_on : {u w w' : Rows} → Moved s vs n l own u w → Moved s vs n l own w w' → Moved s vs n l own u w'
+  pub moved_on : {u w w' : Rows} → Moved s vs l own u w → Moved s vs l own w w' → Moved s vs l own u w'
   moved_on a b =
       let sa = a.step in let sb = b.step in let ao = a.on in let bo = b.on in let ar = a.room in let br = b.room in let af = a.few in let bf = b.few in
       record {
@@ -51,41 +52,22 @@ module _ {s vs : List ℕ} {n : ℕ} {l : List ℕ} {own : Bool} where
         count = b.count ∙ a.count;
       }
 
-  pub ready_on : {one : ℕ} {w w' : Rows} → SiftReady s vs n l own one w → Moved s vs n l own w w' → SiftReady s vs n l own one w'
-  ready_on r m =
-      let a = r.ahead in
-      let ms = m.step in let mr = m.room in let mf = m.few in let rp = r.place in let rk = r.kept in let rf = r.few in
-      record {
-        lined = r.lined;
-        reach = r.reach;
-        ahead = record { edge = rw m.edge a.edge; room = rw m.edge a.room; goes = m.goes a.goes };
-        few = omega arith;
-        place = omega arith;
-        kept = omega arith;
-      }
-
-  pub sifted_none : {out : List ℕ} {w : Rows} → Sifted s vs n l own out w out w
-  sifted_none = record { moved = moved_none; ends = refl; store = refl }
-
-  pub sifted_size : {out out' : List ℕ} {w w' : Rows} → Sifted s vs n l own out w out' w' → length out' ≡ length out
-  sifted_size {out} {out'} {w} {w'} z = sym (length-sets out' w'.at (encode_rows (rows_ahead s vs n l own w'))) ∙ ap length z.store ∙ length-sets out w.at (encode_rows (rows_ahead s vs n l own w))
-
-  pub sifted_on : {out₀ out out' : List ℕ} {u w w' : Rows} → Sifted s vs n l own out₀ u out w → Sifted s vs n l own out w out' w' → Sifted s vs n l own out₀ u out' w'
+  pub sifted_on : {out₀ out out' : List ℕ} {u w w' : Rows} → Sifted s vs l own out₀ u out w → Sifted s vs l own out w out' w' → Sifted s vs l own out₀ u out' w'
   sifted_on a b = record { moved = moved_on a.moved b.moved; ends = b.ends ∙ a.ends; store = b.store ∙ a.store }
 
-  pub sifted_end : {out₀ out : List ℕ} {p m at : ℕ} {w : Rows} → m ≤ 64 → w.m ≡ 0
-      → Sifted s vs n l own out₀ (record { p = p; m = m; i = 0; q = 0; k = 0; j = 0; at = at; n = 0 }) out w → WroteRows out₀ at (sifted_rows vs n l own 0 (rows_at s p m)) out w.n w.at
+  pub sifted_end : {out₀ out : List ℕ} {u w : Rows} → u.x.left ≤ 64 → u.x.gone ≡ 0 → u.n ≡ 0 → w.x.left ≡ 0
+      → Sifted s vs l own out₀ u out w → WroteRows out₀ u.at (sifted_rows vs l own 0 (rows_at s u.x.at u.x.left)) out w.n w.at
   unfolding list_at sifted_rows bytes_of
-  sifted_end {w = w} few e z =
+  sifted_end {u = u} {w = w} few first none e z =
       let o = z.moved in let os = o.step in let oo = o.on in let on = o.room in let of = o.few in
-      let nil : rows_ahead s vs n l own w ≡ [] = rw e in
-      record {
-        count = (rw (nil, add-zero) at o.count) ∙ zero-add _;
+      let nil : rows_ahead s vs l own w ≡ [] = rw e in
+      rw (← first) (record {
+        count = (rw (nil, add-zero, none) at o.count) ∙ zero-add _;
         ends = rw (nil, add-zero) at z.ends;
         few = omega arith;
         room = omega arith;
         bytes = rw nil at z.store;
-      }
+      })
 
 -- ---- a run of rows that stay as they are
 
@@ -108,64 +90,64 @@ entry_some : (m : ℕ) (c : Clock) → 0 < length c → entry? m c ≡ some (rec
 entry_some m [] h = absurd (omega arith)
 entry_some m (d ∷ c) h = refl
 
-module _ {s vs : List ℕ} {n : ℕ} {l : List ℕ} {own : Bool} where
-  pub passed_none : {w : Rows} → w.p ≤ length s → Passed s vs n l own w w
-  passed_none {w} h = record { moved = moved_none; start = omega arith; inside = h; at = refl; bytes = ap (λ (x : List ℕ). x ++ encode_rows (rows_ahead s vs n l own w)) (sym (slice_empty w.p s)) }
+module _ {s vs l : List ℕ} {own : Bool} where
+  pub passed_none : {w : Rows} → w.x.at ≤ length s → Passed s vs l own w w
+  passed_none {w} h = record { moved = moved_none; start = omega arith; inside = h; at = refl; bytes = ap (λ (x : List ℕ). x ++ encode_rows (rows_ahead s vs l own w)) (sym (slice_empty w.x.at s)) }
 
   -- one more row
-  pub passed_on : {u w : Rows} (xs : ℕ) → Passed s vs n l own u w → (r : FirstRow s w.p w.m xs (take n vs)) → 0 < w.m → n ≤ 16 → Bytes s → xs ≡ u32_at s (w.p + 4)
-      → (0 < xs) × (sifted vs n l (line_for own w.i) (dots_at s (w.p + 8) xs) ≡ dots_at s (w.p + 8) xs)
-      → Passed s vs n l own u (record { p = w.p + 8 + 12 * xs; m = w.m - 1; i = w.i + 1; q = 0; k = 0; j = 0; at = w.at + (8 + 12 * xs); n = w.n + 1 })
+  pub passed_on : {u w : Rows} (xs : ℕ) (h' : Hand) → h' ≡ record { at = w.x.at + 8 + 12 * xs; left = w.x.left - 1; gone = w.x.gone + 1 } → Passed s vs l own u w → (r : FirstRow s w.x.at w.x.left xs vs) → 0 < w.x.left → length vs ≤ 16 → Bytes s → xs ≡ u32_at s (w.x.at + 4)
+      → (0 < xs) × (sifted vs l (line_for own w.x.gone) (dots_at s (w.x.at + 8) xs) ≡ dots_at s (w.x.at + 8) xs)
+      → Passed s vs l own u (record w { x = h'; at = w.at + (8 + 12 * xs); n = w.n + 1 })
   unfolding bytes_of
-  passed_on {u} {w} xs z r any few b e h =
-      let row : Entry = record { member = u32_at s w.p; clock = dots_at s (w.p + 8) xs } in
+  passed_on {u} {w} xs h' eh z r any few b e h = subst (λ (x : Hand). Passed s vs l own u (record w { x = x; at = w.at + (8 + 12 * xs); n = w.n + 1 })) (sym eh) (
+      let row : Entry = record { member = u32_at s w.x.at; clock = dots_at s (w.x.at + 8) xs } in
       let inside = r.inside in let z0 = z.start in let za = z.at in
-      let long : length (dots_at s (w.p + 8) xs) ≡ xs = length_list_at dot_at (dot_end_in narrow) s (w.p + 8) xs in
+      let long : length (dots_at s (w.x.at + 8) xs) ≡ xs = length_list_at dot_at (dot_end_in narrow) s (w.x.at + 8) xs in
       let dots = h.0 in
-      let o : row_of s vs n l own w xs r any ≡ some row = rw h.1 (entry_some (u32_at s w.p) (dots_at s (w.p + 8) xs) (omega arith)) in
-      let short : xs ≤ 16 = let f = r.few in let g = length-take n vs in omega arith in
-      let rest = encode_rows (rows_ahead s vs n l own (row_past s vs n l own w xs r any (8 + 12 * xs) 1)) in
-      let step : encode_rows (rows_ahead s vs n l own w) ≡ slice w.p (w.p + 8 + 12 * xs) s ++ rest =
-      ap (λ (es : List Entry). encode_rows es) (rw o at (ahead_step s vs n l own w xs r any (8 + 12 * xs) 1)) ∙ ap (λ (x : List ℕ). x ++ rest) (sym (row_copied s w.p xs e b inside)) in
+      let o : row_of s vs l own w xs r any ≡ some row = rw h.1 (entry_some (u32_at s w.x.at) (dots_at s (w.x.at + 8) xs) (omega arith)) in
+      let short : xs ≤ 16 = let f = r.few in omega arith in
+      let rest = encode_rows (rows_ahead s vs l own (row_past s vs l own w xs r any (8 + 12 * xs) 1)) in
+      let step : encode_rows (rows_ahead s vs l own w) ≡ slice w.x.at (w.x.at + 8 + 12 * xs) s ++ rest =
+      ap (λ (es : List Entry). encode_rows es) (rw o at (ahead_step s vs l own w xs r any (8 + 12 * xs) 1)) ∙ ap (λ (x : List ℕ). x ++ rest) (sym (row_copied s w.x.at xs e b inside)) in
       record {
-        moved = moved_on z.moved (row_moved s vs n l own w xs r any (8 + 12 * xs) 1 (omega arith) (rw o refl));
+        moved = moved_on z.moved (row_moved s vs l own w xs r any (8 + 12 * xs) 1 (omega arith) (rw o refl));
         start = omega arith;
         inside = inside;
         at = omega arith;
-        bytes = z.bytes ∙ ap (λ (x : List ℕ). slice u.p w.p s ++ x) step ∙ sym (append_assoc (slice u.p w.p s) (slice w.p (w.p + 8 + 12 * xs) s) rest)
-            ∙ ap (λ (x : List ℕ). x ++ rest) (slice_join u.p w.p (w.p + 8 + 12 * xs) s z0 (omega arith) inside);
-      }
+        bytes = z.bytes ∙ ap (λ (x : List ℕ). slice u.x.at w.x.at s ++ x) step ∙ sym (append_assoc (slice u.x.at w.x.at s) (slice w.x.at (w.x.at + 8 + 12 * xs) s) rest)
+            ∙ ap (λ (x : List ℕ). x ++ rest) (slice_join u.x.at w.x.at (w.x.at + 8 + 12 * xs) s z0 (omega arith) inside);
+      })
 
   -- copied as they stand
-  pub passed_sifted : {w w' : Rows} (out out' : List ℕ) → Passed s vs n l own w w' → out' ≡ sets out w.at (slice w.p w'.p s) → Sifted s vs n l own out w out' w'
+  pub passed_sifted : {w w' : Rows} (out out' : List ℕ) → Passed s vs l own w w' → out' ≡ sets out w.at (slice w.x.at w'.x.at s) → Sifted s vs l own out w out' w'
   passed_sifted {w} {w'} out out' z e =
-      let run = slice w.p w'.p s in
-      let rest = encode_rows (rows_ahead s vs n l own w') in
-      let long : length run ≡ w'.p - w.p = length-slice w.p w'.p s z.inside in
+      let run = slice w.x.at w'.x.at s in
+      let rest = encode_rows (rows_ahead s vs l own w') in
+      let long : length run ≡ w'.x.at - w.x.at = length-slice w.x.at w'.x.at s z.inside in
       let start = z.start in let at = z.at in
       let place : w'.at ≡ w.at + length run = omega arith in
       record {
         moved = z.moved;
-        ends = let f : length (encode_rows (rows_ahead s vs n l own w)) ≡ length run + length rest = ap length z.bytes ∙ length-append run rest in omega arith;
+        ends = let f : length (encode_rows (rows_ahead s vs l own w)) ≡ length run + length rest = ap length z.bytes ∙ length-append run rest in omega arith;
         store = rw (e, place) (sym (sets_append out w.at run rest)) ∙ ap (sets out w.at) (sym z.bytes);
       }
 
 -- ---- they are the entries that stay of two sides
 
-module _ (A B : Replica) (vs : List ℕ) (n : ℕ) (l : List ℕ) (own : Bool) (long : n ≤ length vs)
-    (lines : (j i : ℕ) (e : Entry) (rest : List Entry) → drop j A.entries ≡ e ∷ rest → i < n → get_or l (line_for own j + i) 0 ≡ line_of B e.member (get_or vs i 0)) where
-  kept_rows : (es : List Entry) (i : ℕ) → es ≡ drop i A.entries → Rise entry_rows es → sifted_rows vs n l own i es ≡ zip entries (kept_clock (take n vs) A B) es []
+module _ (A B : Replica) (vs l : List ℕ) (own : Bool)
+    (lines : (j i : ℕ) (e : Entry) (rest : List Entry) → drop j A.entries ≡ e ∷ rest → i < length vs → get_or l (line_for own j + i) 0 ≡ line_of B e.member (get_or vs i 0)) where
+  kept_rows : (es : List Entry) (i : ℕ) → es ≡ drop i A.entries → Rise entry_rows es → sifted_rows vs l own i es ≡ zip entries (kept_clock vs A B) es []
   unfolding sifted_rows kept_clock
-  kept_rows [] i e r = sym (zip_nil entries (kept_clock (take n vs) A B))
+  kept_rows [] i e r = sym (zip_nil entries (kept_clock vs A B))
   kept_rows (x ∷ es) i e r =
       let m = x.member in
       ap₂ cons?
       (ap (entry? m)
-      (lines_walked vs l (line_for own i) l (line_for own i) n (line_of A m) (line_of B m) 0 n x.clock [] (omega arith) (inr (λ j h. lines i j x es (sym e) h)) (inl refl)
-      ∙ ap (λ (cs : List ℕ). walked dots (λ a. keep_of (line_of A m a) (line_of B m a)) cs x.clock []) (actors_take vs 0 n (omega arith))))
+      (lines_walked vs l (line_for own i) l (line_for own i) (length vs) (line_of A m) (line_of B m) 0 (length vs) x.clock [] (omega arith) (inr (λ j h. lines i j x es (sym e) h)) (inl refl)
+      ∙ ap (λ (cs : List ℕ). walked dots (λ a. keep_of (line_of A m a) (line_of B m a)) cs x.clock []) (actors_all vs)))
       (kept_rows es (suc i) (ap tail e ∙ drop_tail A.entries i) r.1)
-      ∙ sym (zip_left entries (kept_clock (take n vs) A B) x es [] r.0 tt)
+      ∙ sym (zip_left entries (kept_clock vs A B) x es [] r.0 tt)
 
-  pub sifted_kept : B.entries ≡ [] → Rise entry_rows A.entries → sifted_rows vs n l own 0 A.entries ≡ kept_entries (take n vs) A B
+  pub sifted_kept : B.entries ≡ [] → Rise entry_rows A.entries → sifted_rows vs l own 0 A.entries ≡ kept_entries vs A B
   unfolding kept_entries
-  sifted_kept e r = kept_rows A.entries 0 refl r ∙ ap (λ (es : List Entry). zip entries (kept_clock (take n vs) A B) A.entries es) (sym e)
+  sifted_kept e r = kept_rows A.entries 0 refl r ∙ ap (λ (es : List Entry). zip entries (kept_clock vs A B) A.entries es) (sym e)

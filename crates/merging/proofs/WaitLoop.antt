@@ -79,22 +79,22 @@ pub record Waiting (v : Clock) (s t : List ℕ) (p m q k at : ℕ) (out₀ : Lis
   pub store : sets out w.at (encode_waits (waits_left v s t w)) ≡ sets out₀ at (encode_waits whole)
 
 module _ (v : Clock) (s : List ℕ) (p m : ℕ) (t : List ℕ) (q k : ℕ) (R : WaitsReady v s p m t q k) where
-  pub waits_begin : (at : ℕ) (out : List ℕ) → Waiting v s t p m q k at out (kept_waits v (waits_at s p m) (waits_at t q k)) out (record { p = p; m = m; q = q; k = k; at = at; n = 0; most = 0 })
-  waits_begin at out =
+  pub waits_begin : (w : Waits) → w.p ≡ p → w.m ≡ m → w.q ≡ q → w.k ≡ k → w.n ≡ 0 → w.most ≡ 0 → (out : List ℕ) → Waiting v s t p m q k w.at out (kept_waits v (waits_at s p m) (waits_at t q k)) out w
+  waits_begin w ep em eq ek n most out =
       record {
-        left_rise = R.left_rise;
-        right_rise = R.right_rise;
-        left_sound = R.left_sound;
-        right_sound = R.right_sound;
-        left_edge = refl;
-        right_edge = refl;
+        left_rise = rw (ep, em) R.left_rise;
+        right_rise = rw (eq, ek) R.right_rise;
+        left_sound = rw (ep, em) R.left_sound;
+        right_sound = rw (eq, ek) R.right_sound;
+        left_edge = rw (ep, em);
+        right_edge = rw (eq, ek);
         few = omega arith;
         room = omega arith;
         size = refl;
-        count = zero-add _;
-        ends = refl;
-        most = omega arith;
-        store = refl;
+        count = rw (ep, em, eq, ek, n) (zero-add _);
+        ends = rw (ep, em, eq, ek);
+        most = rw (ep, em, eq, ek, most) (omega arith);
+        store = rw (ep, em, eq, ek);
       }
 
   module _ {at : ℕ} {out₀ : List ℕ} {whole : List Wait} {out : List ℕ} {w : Waits} (z : Waiting v s t p m q k at out₀ whole out w) where
@@ -147,7 +147,7 @@ module _ (v : Clock) (s : List ℕ) (p m : ℕ) (t : List ℕ) (q k : ℕ) (R : 
         length_one none = omega arith
         length_one (some w) = omega arith
 
-    pub waits_done : w.m + w.k ≡ 0 → WroteWaits out₀ at whole out w
+    pub waits_done : w.m + w.k ≡ 0 → WroteWaits out₀ at whole out (record { at = w.at; n = w.n; most = w.most })
     unfolding list_at bytes_of most_named
     waits_done e =
         let em : w.m ≡ 0 = omega arith in

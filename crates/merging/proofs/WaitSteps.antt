@@ -1,17 +1,21 @@
 -- One turn of the loop over the waiting removes of two images.
 use Prim.Native.Nat.{ℕ, zero, suc, ◌+◌, ◌*◌, ◌-◌, ◌≤◌, ◌<◌, max, Ordering}
-use mathlib.Core.Path.{◌≡◌, refl, sym, ap, ap₂, ◌∙◌}
+use mathlib.Core.Path.{◌≡◌, refl, sym, ap, ap₂, ◌∙◌, subst}
 use mathlib.Core.Bool.{Bool, true, false, false≢true}
 use mathlib.Core.List.{List, [], ◌∷◌, ◌++◌}
 use native.Mathlib.Omega.{arith}
 use native.Mathlib.Nat.{add-zero}
-use lib.Dec.{eqb}
 use lib.ListN.{length, length-append}
 use lib.Seq.{sets, slice, length-sets}
 use borrow.Author.Tests.{ne_eqb}
+use Rattle.std.specs.Int.{from_bool}
+use Rattle.std.specs.Ordering.{is_le, is_ge}
+use Rattle.std.specs.declared.cmp.Ordering.{Ordering as Order}
+use Rattle.std.specs.declared.cmp.Ordering.TheVariants.{Less, Equal, Greater}
 use Rattle.tables.specs.Stores.{sets_append}
 use Rattle.tables.specs.Table.{Normal, All, pick, cons?}
 use Rattle.tables.specs.Zip.{tail, Rise, turn_of, left_after, right_after}
+use Rattle.dots.specs.Calls.{ordered}
 use Rattle.dots.specs.Clock.{Clock}
 use Rattle.dots.specs.Covering.{cover_of}
 use Rattle.replica.specs.Replica.{Wait, waits, member_rows, member_sets}
@@ -162,21 +166,22 @@ unfolding end_after wait_end_in
 first_inside s p zero h l = absurd (omega arith)
 first_inside s p (suc m) h l = let k = end_ge s (wait_end s p) m in omega arith
 
-pub part_none : (s : List ℕ) (p e n taken : ℕ) → n ≡ u32_at s p → e ≡ p + 4 + 12 * n → n < 4294967296 → p < 4294967296 → taken ≡ 0 → waiting.PartAt s p taken (record { names = e + 4; count = 0; end = p })
+pub part_none : (s : List ℕ) (p e n taken : ℕ) → n ≡ u32_at s p → e ≡ p + 4 + 12 * n → n < 4294967296 → p < 4294967296 → taken ≡ 0 → waiting.PartAt s p taken (record { start = p; names = e + 4; count = 0; end = p })
 unfolding clock_end_in
-part_none s p e n taken en ee l h t = rw t (record { names = omega arith; count = refl; end = refl; small = omega arith })
+part_none s p e n taken en ee l h t = rw t (record { start = refl; names = omega arith; count = refl; end = refl; small = omega arith })
 
 pub part_some : (s : List ℕ) (p e n taken k : ℕ) → n ≡ u32_at s p → e ≡ p + 4 + 12 * n → n < 4294967296 → p < 4294967296 → (taken ≡ 0 → ⊥) → k ≡ u32_at s e → k < 4294967296
-    → waiting.PartAt s p taken (record { names = e + 4; count = k; end = e + 4 + 4 * k })
+    → waiting.PartAt s p taken (record { start = p; names = e + 4; count = k; end = e + 4 + 4 * k })
 unfolding clock_end_in wait_end_in
 part_some s p e n taken k en ee l h t ek lk =
     let z : e ≡ p + (4 + 12 * u32_at s p) = omega arith in
     let y : k ≡ u32_at s (p + (4 + 12 * u32_at s p)) = ek ∙ ap (u32_at s) z in
     let n = ne_eqb taken 0 t in
-    record { names = omega arith; count = rw n y; end = rw n (omega arith); small = omega arith }
+    record { start = refl; names = omega arith; count = rw n y; end = rw n (omega arith); small = omega arith }
 
 -- a side of which the next waiting remove is taken, or not
 pub record WaitSide (s : List ℕ) (p m : ℕ) (b : Bool) (x : Part) : Type 0 where
+  pub start : x.start ≡ p
   pub fits : pick b 1 0 ≤ m
   pub rows : waits_at s x.end (m - pick b 1 0) ≡ pick b (tail (waits_at s p m)) (waits_at s p m)
   pub edge : waits_end_at s x.end (m - pick b 1 0) ≡ waits_end_at s p m
@@ -193,6 +198,7 @@ wait_side s p m false x h f g r =
     let y : m - 0 ≡ m = omega arith in
     let ec = h.count in
     record {
+      start = h.start;
       fits = f;
       rows = rw (h.end, y);
       edge = rw (h.end, y);
@@ -210,6 +216,7 @@ wait_side s p (suc m) true x h f g r =
     let we = wait_end_is s p in let ec = h.count in let ee = h.end in
     let few : x.count ≤ 512 = let l = length_list_at u32_at (λ s p. p + 4) s (clock_end s p + 4) (u32_at s (clock_end s p)) in let n = g.0.named in omega arith in
     record {
+      start = h.start;
       fits = f;
       rows = rw (h.end, y);
       edge = rw (h.end, y);
@@ -242,15 +249,20 @@ takes_right Ordering.lt = false
 takes_right Ordering.eq = true
 takes_right Ordering.gt = true
 
-left_taken : (o : Ordering) → ◌≡◌ {A = ℕ} (pick (eqb (waiting.order_of o) 2) 0 1) (pick (takes_left o) 1 0)
+left_taken : (o : Ordering) → is_le (ordered o) ≡ takes_left o
 left_taken Ordering.lt = refl
 left_taken Ordering.eq = refl
 left_taken Ordering.gt = refl
 
-right_taken : (o : Ordering) → ◌≡◌ {A = ℕ} (pick (eqb (waiting.order_of o) 0) 0 1) (pick (takes_right o) 1 0)
+right_taken : (o : Ordering) → is_ge (ordered o) ≡ takes_right o
 right_taken Ordering.lt = refl
 right_taken Ordering.eq = refl
 right_taken Ordering.gt = refl
+
+-- how the code counts what a side takes
+pub one_taken : (b : Bool) (i : ℕ) → i ≡ from_bool b → i ≡ pick b 1 0
+one_taken true i e = e
+one_taken false i e = e
 
 left_rows : (o : Ordering) (xs : List Wait) → pick (takes_left o) (tail xs) xs ≡ left_after waits o xs
 left_rows Ordering.lt xs = refl
@@ -272,7 +284,7 @@ right_members Ordering.lt y = refl
 right_members Ordering.eq y = refl
 right_members Ordering.gt y = refl
 
-next_clock_is : (o : Ordering) (x y : Wait) → pick (eqb (waiting.order_of o) 2) y.clock x.clock ≡ next_clock o x y
+next_clock_is : (o : Ordering) (x y : Wait) → waiting.of_side (ordered o) x.clock y.clock ≡ next_clock o x y
 next_clock_is Ordering.lt x y = refl
 next_clock_is Ordering.eq x y = refl
 next_clock_is Ordering.gt x y = refl
@@ -299,15 +311,15 @@ taken_right (x ∷ xs) (y ∷ ys) h = go (takes_right (turn_of waits (x ∷ xs) 
     go false = omega arith
 
 -- both sides of a turn
-pub record Turned (s t : List ℕ) (w : Waits) (side : ℕ) (x y : Part) : Type 0 where
+pub record Turned (s t : List ℕ) (w : Waits) (side : Order) (x y : Part) : Type 0 where
   pub o : Ordering
   pub turn : o ≡ turn_of waits (waits_at s w.p w.m) (waits_at t w.q w.k)
-  pub is : side ≡ waiting.order_of o
+  pub is : side ≡ ordered o
   pub left : WaitSide s w.p w.m (takes_left o) x
   pub right : WaitSide t w.q w.k (takes_right o) y
 
-pub turned : (s t : List ℕ) (w : Waits) (side i j : ℕ) (x y : Part) → waiting.WaitsAhead s t w → side ≡ waiting.order_of (turn_of waits (waits_at s w.p w.m) (waits_at t w.q w.k))
-    → i ≡ pick (eqb side 2) 0 1 → j ≡ pick (eqb side 0) 0 1 → waiting.PartAt s w.p i x → waiting.PartAt t w.q j y → Turned s t w side x y
+pub turned : (s t : List ℕ) (w : Waits) (side : Order) (i j : ℕ) (x y : Part) → waiting.WaitsAhead s t w → side ≡ ordered (turn_of waits (waits_at s w.p w.m) (waits_at t w.q w.k))
+    → i ≡ pick (is_le side) 1 0 → j ≡ pick (is_ge side) 1 0 → waiting.PartAt s w.p i x → waiting.PartAt t w.q j y → Turned s t w side x y
 turned s t w side i j x y h e ei ej px py =
     let xs = waits_at s w.p w.m in
     let ys = waits_at t w.q w.k in
@@ -315,8 +327,8 @@ turned s t w side i j x y h e ei ej px py =
     let lx = length_list_at wait_at_place wait_end s w.p w.m in
     let ly = length_list_at wait_at_place wait_end t w.q w.k in
     let mo = h.more in
-    let ti : i ≡ pick (takes_left o) 1 0 = ei ∙ ap (λ (k : ℕ). pick (eqb k 2) 0 1) e ∙ left_taken o in
-    let tj : j ≡ pick (takes_right o) 1 0 = ej ∙ ap (λ (k : ℕ). pick (eqb k 0) 0 1) e ∙ right_taken o in
+    let ti : i ≡ pick (takes_left o) 1 0 = ei ∙ ap (λ (b : Bool). pick b 1 0) (ap is_le e ∙ left_taken o) in
+    let tj : j ≡ pick (takes_right o) 1 0 = ej ∙ ap (λ (b : Bool). pick b 1 0) (ap is_ge e ∙ right_taken o) in
     record {
       o = o;
       turn = refl;
@@ -330,59 +342,58 @@ turned s t w side i j x y h e ei ej px py =
 pub starts_small : {s t : List ℕ} {w : Waits} → waiting.WaitsAhead s t w → (w.p < 4294967296) × (w.q < 4294967296)
 starts_small {s} {t} {w} h = let a = end_ge s w.p w.m in let b = end_ge t w.q w.k in let ea = h.left_edge in let eb = h.right_edge in (omega arith, omega arith)
 
-pub record Numbers (s t : List ℕ) (w : Waits) (side i j : ℕ) (x y : Part) : Type 0 where
-  pub left : (side ≡ 2 → ⊥) → waiting.Whole s w.p x
-  pub right : (side ≡ 0 → ⊥) → waiting.Whole t w.q y
-  pub left_none : side ≡ 2 → x.count ≡ 0
-  pub right_none : side ≡ 0 → y.count ≡ 0
+pub record Numbers (s t : List ℕ) (w : Waits) (side : Order) (i j : ℕ) (x y : Part) : Type 0 where
+  pub left : (side ≡ Greater → ⊥) → waiting.Whole s x.start x
+  pub right : (side ≡ Less → ⊥) → waiting.Whole t y.start y
+  pub left_none : side ≡ Greater → x.count ≡ 0
+  pub right_none : side ≡ Less → y.count ≡ 0
   pub left_fits : i ≤ w.m
   pub right_fits : j ≤ w.k
   pub moves : 0 < i + j
-  pub clock_few : pick (eqb side 2) (u32_at t w.q) (u32_at s w.p) ≤ 16
+  pub clock_few : waiting.of_side side (u32_at s w.p) (u32_at t w.q) ≤ 16
   pub few : x.count + y.count ≤ 1024
-  pub room : 8 + 12 * pick (eqb side 2) (u32_at t w.q) (u32_at s w.p) + 4 * (x.count + y.count) + (w.p + w.q) ≤ x.end + y.end
+  pub room : 8 + 12 * waiting.of_side side (u32_at s w.p) (u32_at t w.q) + 4 * (x.count + y.count) + (w.p + w.q) ≤ x.end + y.end
 
-pub numbers : (s t : List ℕ) (w : Waits) (side i j : ℕ) (x y : Part) → i ≡ pick (eqb side 2) 0 1 → j ≡ pick (eqb side 0) 0 1 → Turned s t w side x y → Numbers s t w side i j x y
+pub numbers : (s t : List ℕ) (w : Waits) (side : Order) (i j : ℕ) (x y : Part) → i ≡ pick (is_le side) 1 0 → j ≡ pick (is_ge side) 1 0 → Turned s t w side x y → Numbers s t w side i j x y
 numbers s t w side i j x y ei ej d = go d.o d.is d.left d.right
   where
-    go : (o : Ordering) → side ≡ waiting.order_of o → WaitSide s w.p w.m (takes_left o) x → WaitSide t w.q w.k (takes_right o) y → Numbers s t w side i j x y
+    go : (o : Ordering) → side ≡ ordered o → WaitSide s w.p w.m (takes_left o) x → WaitSide t w.q w.k (takes_right o) y → Numbers s t w side i j x y
     go Ordering.lt e l r =
         let li : i ≡ 1 = ei ∙ rw e in let lj : j ≡ 0 = ej ∙ rw e in
         let el = l.long in let er = r.long in let z = r.none_left refl in let fi = l.fits in let nl = l.named in let nr = r.named in let cf = (l.whole refl).few in
-        record { clock_few = rw e cf; few = omega arith; left = λ n. l.whole refl; right = λ n. absurd (n e); left_none = λ n. absurd (omega arith); right_none = λ n. z; left_fits = omega arith; right_fits = omega arith; moves = omega arith; room = rw e (omega arith) }
+        record { clock_few = rw e cf; few = omega arith; left = λ n. subst (λ (p : ℕ). waiting.Whole s p x) (sym l.start) (l.whole refl); right = λ n. absurd (n e); left_none = λ n. absurd cc; right_none = λ n. z; left_fits = omega arith; right_fits = omega arith; moves = omega arith; room = rw e (omega arith) }
     go Ordering.eq e l r =
         let li : i ≡ 1 = ei ∙ rw e in let lj : j ≡ 1 = ej ∙ rw e in
         let el = l.long in let er = r.long in let fi = l.fits in let fj = r.fits in let nl = l.named in let nr = r.named in let cf = (l.whole refl).few in
-        record { clock_few = rw e cf; few = omega arith; left = λ n. l.whole refl; right = λ n. r.whole refl; left_none = λ n. absurd (omega arith); right_none = λ n. absurd (omega arith); left_fits = omega arith; right_fits = omega arith; moves = omega arith; room = rw e (omega arith) }
+        record { clock_few = rw e cf; few = omega arith; left = λ n. subst (λ (p : ℕ). waiting.Whole s p x) (sym l.start) (l.whole refl); right = λ n. subst (λ (q : ℕ). waiting.Whole t q y) (sym r.start) (r.whole refl); left_none = λ n. absurd cc; right_none = λ n. absurd cc; left_fits = omega arith; right_fits = omega arith; moves = omega arith; room = rw e (omega arith) }
     go Ordering.gt e l r =
         let li : i ≡ 0 = ei ∙ rw e in let lj : j ≡ 1 = ej ∙ rw e in
         let el = l.long in let er = r.long in let z = l.none_left refl in let fj = r.fits in let nl = l.named in let nr = r.named in let cf = (r.whole refl).few in
-        record { clock_few = rw e cf; few = omega arith; left = λ n. absurd (n e); right = λ n. r.whole refl; left_none = λ n. z; right_none = λ n. absurd (omega arith); left_fits = omega arith; right_fits = omega arith; moves = omega arith; room = rw e (omega arith) }
+        record { clock_few = rw e cf; few = omega arith; left = λ n. absurd (n e); right = λ n. subst (λ (q : ℕ). waiting.Whole t q y) (sym r.start) (r.whole refl); left_none = λ n. z; right_none = λ n. absurd cc; left_fits = omega arith; right_fits = omega arith; moves = omega arith; room = rw e (omega arith) }
 
-pub clock_length : (side : ℕ) (s t : List ℕ) (p q : ℕ) → length (pick (eqb side 2) (clock_at t q) (clock_at s p)) ≡ pick (eqb side 2) (u32_at t q) (u32_at s p)
-clock_length side s t p q = go (eqb side 2)
-  where
-    go : (b : Bool) → length (pick b (clock_at t q) (clock_at s p)) ≡ pick b (u32_at t q) (u32_at s p)
-    go true = length_clock_at t q
-    go false = length_clock_at s p
+pub clock_length : (side : Order) (s t : List ℕ) (p q : ℕ) → length (waiting.of_side side (clock_at s p) (clock_at t q)) ≡ waiting.of_side side (u32_at s p) (u32_at t q)
+clock_length Less s t p q = length_clock_at s p
+clock_length Equal s t p q = length_clock_at s p
+clock_length Greater s t p q = length_clock_at t q
 
 wait_clock : (s : List ℕ) (p : ℕ) → (wait_at_place s p).clock ≡ clock_at s p
 unfolding wait_in
 wait_clock s p = refl
 
 module _ (v : Clock) (s t out : List ℕ) (w : Waits) where
-  pub merged_wait : (side i j : ℕ) (x y : Part) (long count names most : ℕ) (out' : List ℕ) → i ≡ pick (eqb side 2) 0 1 → j ≡ pick (eqb side 0) 0 1 → Turned s t w side x y
-      → waiting.PutWait (cover_of v (pick (eqb side 2) (clock_at t w.q) (clock_at s w.p))) (pick (eqb side 2) (clock_at t w.q) (clock_at s w.p))
+  pub merged_wait : (side : Order) (i j : ℕ) (x y : Part) (long count names most : ℕ) (out' : List ℕ) → i ≡ pick (is_le side) 1 0 → j ≡ pick (is_ge side) 1 0 → Turned s t w side x y
+      → waiting.PutWait (cover_of v (waiting.of_side side (clock_at s x.start) (clock_at t y.start))) (waiting.of_side side (clock_at s x.start) (clock_at t y.start))
       (both_sets (members_at s x.names x.count) (members_at t y.names y.count)) (x.count + y.count) out w.at out' (record { long = long; count = count; names = names })
       → most ≡ max w.most names
       → waiting.MergedWait v s t out w out' (record { p = x.end; m = w.m - i; q = y.end; k = w.k - j; at = w.at + long; n = w.n + count; most = most })
-  merged_wait side i j x y long count names most out' ei ej d k em =
+  merged_wait side i j x y long count names most out' ei ej d k₀ em =
       let o = d.o in
+      let k = rw (d.left.start, d.right.start) at k₀ in
       let nm = numbers s t w side i j x y ei ej d in
-      let ti : i ≡ pick (takes_left o) 1 0 = ei ∙ ap (λ (k : ℕ). pick (eqb k 2) 0 1) d.is ∙ left_taken o in
-      let tj : j ≡ pick (takes_right o) 1 0 = ej ∙ ap (λ (k : ℕ). pick (eqb k 0) 0 1) d.is ∙ right_taken o in
-      let ec : pick (eqb side 2) (clock_at t w.q) (clock_at s w.p) ≡ next_clock o (wait_at_place s w.p) (wait_at_place t w.q) =
-      ap₂ (pick (eqb side 2)) (sym (wait_clock t w.q)) (sym (wait_clock s w.p)) ∙ ap (λ (k : ℕ). pick (eqb k 2) (wait_at_place t w.q).clock (wait_at_place s w.p).clock) d.is ∙ next_clock_is o (wait_at_place s w.p) (wait_at_place t w.q) in
+      let ti : i ≡ pick (takes_left o) 1 0 = ei ∙ ap (λ (b : Bool). pick b 1 0) (ap is_le d.is ∙ left_taken o) in
+      let tj : j ≡ pick (takes_right o) 1 0 = ej ∙ ap (λ (b : Bool). pick b 1 0) (ap is_ge d.is ∙ right_taken o) in
+      let ec : waiting.of_side side (clock_at s w.p) (clock_at t w.q) ≡ next_clock o (wait_at_place s w.p) (wait_at_place t w.q) =
+      ap₂ (waiting.of_side side) (sym (wait_clock s w.p)) (sym (wait_clock t w.q)) ∙ ap (λ (k : Order). waiting.of_side k (wait_at_place s w.p).clock (wait_at_place t w.q).clock) d.is ∙ next_clock_is o (wait_at_place s w.p) (wait_at_place t w.q) in
       let ex = d.left.members ∙ left_members o (wait_at_place s w.p) in
       let ey = d.right.members ∙ right_members o (wait_at_place t w.q) in
       let sh = k.short in let lc = clock_length side s t w.p w.q in let rm = nm.room in

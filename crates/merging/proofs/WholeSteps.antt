@@ -4,26 +4,26 @@ use mathlib.Core.Path.{◌≡◌, refl, sym, ap, ap₂, ◌∙◌}
 use mathlib.Core.Logic.{◌⊎◌, inl, inr}
 use mathlib.Core.List.{List, [], ◌∷◌, ◌++◌}
 use native.Mathlib.Omega.{arith}
+use native.Mathlib.Nat.{zero-add}
 use native.Mathlib.Numerals.{add-one}
 use lib.Bits.{bit_or, or_add_and, and_le_l, and_le_r}
-use lib.Dec.{eqb}
 use lib.ListN.{length, get_or, take, drop, length-take}
-use lib.Seq.{sets, slice, take-add, take_at, drop_at, drop-cons}
+use lib.Seq.{sets, slice, take-add, take_at, drop_at, drop-cons, get_or-take, get_or-drop, take-length}
 use borrow.Author.Tests.{eq-eqb, ne_eqb, lt-ltb, le-ltb}
-use Rattle.tables.specs.Table.{pick, cons?}
+use Rattle.tables.specs.Table.{cons?}
 use Rattle.tables.specs.Zip.{said, past, by_lt}
 use Rattle.tables.specs.Walk.{walked, length_walked}
 use Rattle.dots.specs.Dot.{dots, dot?}
 use Rattle.dots.specs.Clock.{Clock}
-use Rattle.layout.specs.Fields.{Bytes, u32_at, u64_at}
+use Rattle.layout.specs.Fields.{Bytes}
 use Rattle.layout.specs.Lists.{list_at}
-use Rattle.layout.specs.Clock.{narrow, dot_in, dot_end_in, dot_at, dots_at, encode_dots}
+use Rattle.layout.specs.Clock.{narrow, dot_end_in, dot_at, dots_at, encode_dots}
 use Rattle.layout.proofs.Form.{length_list_at, stands_list, steady_end}
 use Rattle.layout.proofs.Parts.{sound_narrow, dot_form, faithful_dot}
 use Rattle.changing.specs.Kept.{keep_of, met_along}
-use Rattle.merging.specs.Ahead.{Met}
-use Rattle.merging.specs.Keeping.{KeptDots, lines_from, kept_along, Above, Stays}
-use Rattle.merging.proofs.KeepSteps.{length_dots, dot_said, dot_past}
+use Rattle.merging.specs.declared.entries.Dots.{Dots}
+use Rattle.merging.specs.Keeping.{Took, KeptDots, Line, lines_from, kept_along, Above, Stays}
+use Rattle.merging.proofs.KeepSteps.{length_dots}
 
 -- n actors from k on
 abbrev pub actors_from : List ℕ → ℕ → ℕ → List ℕ
@@ -36,6 +36,9 @@ actors_take vs k (suc n) h = ap (λ (l : List ℕ). get_or vs k 0 ∷ l) (actors
   where
     drop_one : (vs : List ℕ) (k : ℕ) → k < length vs → drop k vs ≡ get_or vs k 0 ∷ drop (k + 1) vs
     drop_one vs k h = rw add-one (drop-cons vs k 0 h)
+
+pub actors_all : (vs : List ℕ) → actors_from vs 0 (length vs) ≡ vs
+actors_all vs = actors_take vs 0 (length vs) (omega arith) ∙ take-length vs
 
 -- ---- one counter
 
@@ -74,17 +77,29 @@ module _ (vs ka : List ℕ) (ja : ℕ) (kb : List ℕ) (ib : ℕ) where
   same_both k (suc n) x = let a = get_or vs k 0 in
       ap₂ cons? (ap (dot? a) (keep_same (get_or ka (ja + k) 0) (get_or kb (ib + k) 0) (said dots a x))) (same_both (k + 1) n (past dots a x))
 
-  module _ (n : ℕ) (long : n ≤ length vs) (x y : Clock) where
-    actors_are : actors_from vs 0 n ≡ take n vs
-    actors_are = actors_take vs 0 n (omega arith)
+  module _ (x y : Clock) where
+    pub stays_left : met_along vs x ≡ x → Stays vs kb ib (length vs) x y → kept_along (lines_from vs ka ja kb ib 0 (length vs)) x y ≡ x
+    stays_left m (inl h) = rw h.0 (above_left 0 (length vs) x h.1 ∙ ap (λ (l : List ℕ). met_along l x) (actors_all vs) ∙ m)
+    stays_left m (inr e) = rw e (same_both 0 (length vs) x ∙ ap (λ (l : List ℕ). met_along l x) (actors_all vs) ∙ m)
 
-    pub stays_left : met_along (take n vs) x ≡ x → Stays vs kb ib n x y → kept_along (lines_from vs ka ja kb ib 0 n) x y ≡ x
-    stays_left m (inl h) = rw h.0 (above_left 0 n x h.1 ∙ ap (λ (l : List ℕ). met_along l x) actors_are ∙ m)
-    stays_left m (inr e) = rw e (same_both 0 n x ∙ ap (λ (l : List ℕ). met_along l x) actors_are ∙ m)
+    pub stays_right : met_along vs y ≡ y → Stays vs ka ja (length vs) y x → kept_along (lines_from vs ka ja kb ib 0 (length vs)) x y ≡ y
+    stays_right m (inl h) = rw h.0 (above_right 0 (length vs) y h.1 ∙ ap (λ (l : List ℕ). met_along l y) (actors_all vs) ∙ m)
+    stays_right m (inr e) = rw e (same_both 0 (length vs) y ∙ ap (λ (l : List ℕ). met_along l y) (actors_all vs) ∙ m)
 
-    pub stays_right : met_along (take n vs) y ≡ y → Stays vs ka ja n y x → kept_along (lines_from vs ka ja kb ib 0 n) x y ≡ y
-    stays_right m (inl h) = rw h.0 (above_right 0 n y h.1 ∙ ap (λ (l : List ℕ). met_along l y) actors_are ∙ m)
-    stays_right m (inr e) = rw e (same_both 0 n y ∙ ap (λ (l : List ℕ). met_along l y) actors_are ∙ m)
+-- the lines of a part of each side's numbers are those from its place on
+get_part : (l : List ℕ) (a u i : ℕ) → i < u → get_or (take u (drop a l)) i 0 ≡ get_or l (a + i) 0
+get_part l a u i h = get_or-take u (drop a l) i 0 h ∙ get_or-drop a l i 0
+
+abbrev line_with : ℕ → ℕ → ℕ → Line
+line_with a i j = record { actor = a; ours = i; theirs = j }
+
+pub lines_part : (vs ka : List ℕ) (a u : ℕ) (kb : List ℕ) (b w k n : ℕ) → k + n ≤ u → k + n ≤ w → lines_from vs (take u (drop a ka)) 0 (take w (drop b kb)) 0 k n ≡ lines_from vs ka a kb b k n
+unfolding lines_from
+lines_part vs ka a u kb b w k zero f g = refl
+lines_part vs ka a u kb b w k (suc n) f g =
+    let x : get_or (take u (drop a ka)) (0 + k) 0 ≡ get_or ka (a + k) 0 = rw zero-add (get_part ka a u k (omega arith)) in
+    let y : get_or (take w (drop b kb)) (0 + k) 0 ≡ get_or kb (b + k) 0 = rw zero-add (get_part kb b w k (omega arith)) in
+    ap₂ ◌∷◌ (ap₂ (line_with (get_or vs k 0)) x y) (lines_part vs ka a u kb b w (k + 1) n (omega arith) (omega arith))
 
 -- ---- its bytes
 
@@ -112,11 +127,11 @@ or_none : (a b : ℕ) → bit_or a b ≡ 0 → (a ≡ 0) × (b ≡ 0)
 or_none a b e = let s = or_add_and a b in let l = and_le_l a b in let r = and_le_r a b in (omega arith, omega arith)
 
 -- the numbers before i are zeros where `any` is
-abbrev pub Clear : List ℕ → ℕ → ℕ → ℕ → Type 0
-Clear l from any i = any ≡ 0 → (j : ℕ) → j < i → get_or l (from + j) 0 ≡ 0
+abbrev pub Clear : List ℕ → ℕ → ℕ → Type 0
+Clear l any i = any ≡ 0 → (j : ℕ) → j < i → get_or l j 0 ≡ 0
 
-pub clear_on : (l : List ℕ) (from any i : ℕ) → Clear l from any i → Clear l from (bit_or any (get_or l (from + i) 0)) (i + 1)
-clear_on l from any i z e j h = let o = or_none any (get_or l (from + i) 0) e in by_lt j i (λ k. z o.0 j k) (λ k. let q : j ≡ i = omega arith in rw q o.1)
+pub clear_on : (l : List ℕ) (any i : ℕ) → Clear l any i → Clear l (bit_or any (get_or l i 0)) (i + 1)
+clear_on l any i z e j h = let o = or_none any (get_or l i 0) e in by_lt j i (λ k. z o.0 j k) (λ k. let q : j ≡ i = omega arith in rw q o.1)
 
 -- after the numbers that are known to be passed there are zeros only
 pub above_more : (vs l : List ℕ) (from k h n : ℕ) (x : Clock) → ((i : ℕ) → k + h ≤ i → i < k + n → get_or l (from + i) 0 ≡ 0) → h ≤ n → Above vs l from k h x → Above vs l from k n x
@@ -129,40 +144,37 @@ above_more vs l from k zero (suc n) x z le a =
 above_more vs l from k (suc h) (suc n) x z le a =
     (a.0, above_more vs l from (k + 1) h n (past dots (get_or vs k 0) x) (λ i p q. z i (omega arith) (omega arith)) (omega arith) a.1)
 
-pub clear_above : (vs l : List ℕ) (from k n : ℕ) (x : Clock) → ((i : ℕ) → i < 16 → get_or l (from + i) 0 ≡ 0) → k + n ≤ 16 → Above vs l from k n x
+-- along the first actors
+pub above_take : (vs l : List ℕ) (from h k n : ℕ) (x : Clock) → k + n ≤ h → Above (take h vs) l from k n x → Above vs l from k n x
 unfolding Above
-clear_above vs l from k n x z h = above_more vs l from k 0 n x (λ i p q. z i (omega arith)) (omega arith) tt
+above_take vs l from h k zero x le a = tt
+above_take vs l from h k (suc n) x le a =
+    let b = rw (get_or-take h vs k 0 (omega arith)) at a in
+    (b.0, above_take vs l from h (k + 1) n (past dots (get_or vs k 0) x) (omega arith) b.1)
+
+pub above_first : (vs l : List ℕ) (h : ℕ) (x : Clock) → h ≤ length vs → Above (take h vs) l 0 0 (length (take h vs)) x → Above vs l 0 0 h x
+above_first vs l h x le a = let n : length (take h vs) ≡ h = simp length-take (omega arith) in above_take vs l 0 h 0 h x (omega arith) (rw n at a)
+
+pub clear_above : (vs l : List ℕ) (n : ℕ) (x : Clock) → ((i : ℕ) → i < length l → get_or l i 0 ≡ 0) → n ≤ length l → Above vs l 0 0 n x
+unfolding Above
+clear_above vs l n x z h = above_more vs l 0 0 0 n x (λ i p q. rw zero-add (z i (omega arith))) (omega arith) tt
 
 -- ---- the loop over a line
 
-abbrev pub Over : List ℕ → List ℕ → List ℕ → ℕ → ℕ → ℕ → ℕ → ℕ → Type 0
-Over s vs l from n i at left = Above vs l from i (n - i) (dots_at s at left)
+abbrev pub Over : List ℕ → List ℕ → List ℕ → ℕ → ℕ → Dots → Type 0
+Over s vs l n i k = Above vs l 0 i (n - i) (dots_at s k.at k.left)
 
-module _ (s vs l : List ℕ) (from n i at left met : ℕ) (lt : i < n) (small : get_or vs i 0 < 4294967296) (k : Met s at left (get_or vs i 0) met) where
-  pub over_on : (u : ℕ) → u ≡ pick (eqb met 0) 0 (u64_at s (at + 4)) → (u ≡ 0) ⊎ (get_or l (from + i) 0 < u) → Over s vs l from n (i + 1) (at + 12 * met) (left - met) → Over s vs l from n i at left
+module _ (s vs l : List ℕ) (n i : ℕ) (k : Dots) where
+  pub over_on : i < n → (k' : Dots) (u : ℕ) → Took s (get_or vs i 0) k k' u → (u ≡ 0) ⊎ (get_or l i 0 < u) → Over s vs l n (i + 1) k' → Over s vs l n i k
   unfolding Above
-  over_on u e h z =
+  over_on lt k' u t h z =
       let m : n - i ≡ suc (n - (i + 1)) = omega arith in
-      rw (m, ← (dot_said s at left (get_or vs i 0) met small k u e)) (h, rw (dot_past s at left (get_or vs i 0) met small k) at z)
+      let e : 0 + i ≡ i = omega arith in
+      rw (m, ← t.is, e) (h, rw t.past at z)
 
-pub over_begin : (s vs l : List ℕ) (from n x xs : ℕ) → Over s vs l from n 0 x xs → Above vs l from 0 n (dots_at s x xs)
-over_begin s vs l from n x xs h = let e : n - 0 ≡ n = omega arith in rw e at h
-
-pub over_end : (s vs l : List ℕ) (from n i at left : ℕ) → n ≤ i → Over s vs l from n i at left
-unfolding Above
-over_end s vs l from n i at left h = let e : n - i ≡ 0 = omega arith in rw e tt
-
--- ---- the loop over two runs of dots
-
-pub same_on : (s : List ℕ) (x : ℕ) (t : List ℕ) (y left : ℕ) → 0 < left → u32_at s x ≡ u32_at t y → u64_at s (x + 4) ≡ u64_at t (y + 4)
-    → dots_at t (y + 12) (left - 1) ≡ dots_at s (x + 12) (left - 1) → dots_at t y left ≡ dots_at s x left
-unfolding list_at dot_in
-same_on s x t y zero h e f g = absurd (omega arith)
-same_on s x t y (suc n) h e f g = let q : suc n - 1 ≡ n = omega arith in rw (e, f) (ap (λ (r : Clock). dot_at t y ∷ r) (rw q at g))
-
-pub same_none : (s : List ℕ) (x : ℕ) (t : List ℕ) (y left : ℕ) → left ≡ 0 → dots_at t y left ≡ dots_at s x left
-unfolding list_at
-same_none s x t y left e = rw e
+  pub over_end : n ≤ i → Over s vs l n i k
+  unfolding Above
+  over_end h = let e : n - i ≡ 0 = omega arith in rw e tt
 
 pub none_there : (t : List ℕ) (y ys : ℕ) → ys ≡ 0 → dots_at t y ys ≡ []
 unfolding list_at

@@ -19,10 +19,6 @@ unfoldable pub key_ahead : List ℕ → ℕ → ℕ → ℕ
 key_ahead s p zero = 4294967296
 key_ahead s p (suc n) = u32_at s p
 
-pub record KeyAhead (s : List ℕ) (p n r : ℕ) : Type 0 where
-  pub is : r ≡ key_ahead s p n
-  pub small : 0 < n → r < 4294967296
-
 -- 1 where the key is the one that is asked for
 abbrev pub hits : ℕ → ℕ → ℕ
 hits key low = pick (eqb key low) 1 0

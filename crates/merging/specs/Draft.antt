@@ -14,9 +14,9 @@ use Rattle.kills.specs.Laws.{Ordered}
 use Rattle.image.specs.declared.Image.{Image}
 use Rattle.merging.specs.Waiting.{most_named}
 
--- the counters of a clock for n actors
-pub record Counts (c : Clock) (vs : List ℕ) (n : ℕ) (r : List ℕ) : Type 0 where
-  pub is : (i : ℕ) → i < n → get_or r i 0 ≡ count c (get_or vs i 0)
+-- the counters of a clock for some actors
+pub record Counts (c : Clock) (vs r : List ℕ) : Type 0 where
+  pub is : (i : ℕ) → i < length vs → get_or r i 0 ≡ count c (get_or vs i 0)
 
 -- one side: bytes with ascending entries and waiting removes where their contents say, and x, which tells where each stands
 pub record Held (s : List ℕ) (x : Image) : Type 0 where

@@ -1,13 +1,21 @@
 -- What the loop over the dots of two entries computes.
-use Rattle.std.specs.Prelude.{ℕ, zero, suc, ◌+◌, ◌*◌, ◌<◌, ◌≡◌, ◌⊎◌, List, [], ◌∷◌, length, get_or}
+use Rattle.std.specs.Prelude.{ℕ, zero, suc, ◌+◌, ◌*◌, ◌≤◌, ◌<◌, ◌≡◌, ◌⊎◌, List, [], ◌∷◌, length, get_or}
 use Rattle.std.proofs.lemmas.List.Edits.{sets}
 use Rattle.tables.specs.Table.{cons?}
 use Rattle.tables.specs.Zip.{said, past}
 use Rattle.dots.specs.Dot.{dots, dot?}
 use Rattle.dots.specs.Clock.{Clock}
 use Rattle.layout.specs.Clock.{dots_at, encode_dots}
+use Rattle.merging.specs.declared.entries.Dots.{Dots}
 use Rattle.merging.specs.declared.entries.Places.{Places}
 use Rattle.changing.specs.Kept.{keep_of}
+
+-- dots ahead in bytes, and that they lie inside
+abbrev pub dots_in : List ℕ → Dots → Clock
+dots_in s k = dots_at s k.at k.left
+
+abbrev pub Inside : List ℕ → Dots → Type 0
+Inside s k = k.at + 12 * k.left ≤ length s
 
 -- the dot of an actor, or none where its counter is 0
 abbrev pub dot_list : ℕ → ℕ → Clock
@@ -43,11 +51,17 @@ pub record KeptDots (out : List ℕ) (p : ℕ) (ds : Clock) (out' : List ℕ) (r
   pub count : r ≡ length ds
   pub bytes : out' ≡ sets out p (encode_dots ds)
 
+-- what a step of a walk along actors reads of the dots k in s, and leaves of them: k'
+pub record Took (s : List ℕ) (a : ℕ) (k k' : Dots) (r : ℕ) : Type 0 where
+  pub is : r ≡ said dots a (dots_in s k)
+  pub past : dots_in s k' ≡ past dots a (dots_in s k)
+  pub edge : k'.at + 12 * k'.left ≡ k.at + 12 * k.left
+
 -- what one actor's turn leaves
 pub record KeptDot (s t : List ℕ) (a la lb : ℕ) (out : List ℕ) (p : ℕ) (k : Places) (out' : List ℕ) (k' : Places) : Type 0 where
-  pub left : dots_at s k'.x k'.xs ≡ past dots a (dots_at s k.x k.xs)
-  pub right : dots_at t k'.y k'.ys ≡ past dots a (dots_at t k.y k.ys)
-  pub left_edge : k'.x + 12 * k'.xs ≡ k.x + 12 * k.xs
-  pub right_edge : k'.y + 12 * k'.ys ≡ k.y + 12 * k.ys
-  pub count : k'.n ≡ k.n + length (dot_list a (keep_of la lb (said dots a (dots_at s k.x k.xs)) (said dots a (dots_at t k.y k.ys))))
-  pub bytes : out' ≡ sets out (p + 12 * k.n) (encode_dots (dot_list a (keep_of la lb (said dots a (dots_at s k.x k.xs)) (said dots a (dots_at t k.y k.ys)))))
+  pub left : dots_in s k'.x ≡ past dots a (dots_in s k.x)
+  pub right : dots_in t k'.y ≡ past dots a (dots_in t k.y)
+  pub left_edge : k'.x.at + 12 * k'.x.left ≡ k.x.at + 12 * k.x.left
+  pub right_edge : k'.y.at + 12 * k'.y.left ≡ k.y.at + 12 * k.y.left
+  pub count : k'.n ≡ k.n + length (dot_list a (keep_of la lb (said dots a (dots_in s k.x)) (said dots a (dots_in t k.y))))
+  pub bytes : out' ≡ sets out (p + 12 * k.n) (encode_dots (dot_list a (keep_of la lb (said dots a (dots_in s k.x)) (said dots a (dots_in t k.y)))))

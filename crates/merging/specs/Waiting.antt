@@ -1,11 +1,13 @@
 -- What the loops over the waiting removes of two images and over their members start from, and what they leave.
-use Prim.Native.Nat.{ℕ, zero, suc, ◌+◌, ◌*◌, ◌≤◌, ◌<◌, max, Ordering}
-use Rattle.std.specs.Prelude.{◌≡◌, Bool, List, [], ◌∷◌, eqb, ltb, length, get_or}
+use Prim.Native.Nat.{ℕ, ◌+◌, ◌*◌, ◌≤◌, ◌<◌, max, Ordering}
+use Rattle.std.specs.Prelude.{◌≡◌, Bool, List, [], ◌∷◌, eqb, ltb, length}
+use Rattle.std.specs.declared.cmp.Ordering.{Ordering as Order}
+use Rattle.std.specs.declared.cmp.Ordering.TheVariants.{Less, Equal, Greater}
 use Rattle.std.proofs.Math.Option.{Option, none, some}
 use Rattle.std.proofs.lemmas.List.Edits.{sets}
 use Rattle.tables.specs.Table.{Normal, All, pick, cons?}
 use Rattle.tables.specs.Zip.{Rise, turn_of, left_after, right_after, Ascend}
-use Rattle.dots.specs.Dot.{clocks, dot}
+use Rattle.dots.specs.Dot.{clocks}
 use Rattle.dots.specs.Clock.{Clock}
 use Rattle.dots.specs.Covering.{cover_of}
 use Rattle.replica.specs.Replica.{Wait, waits, member_rows, member_sets}
@@ -16,18 +18,14 @@ use Rattle.merging.specs.declared.waits.Names.{Names}
 use Rattle.merging.specs.declared.waits.Part.{Part}
 use Rattle.merging.specs.declared.waits.Put.{Put}
 use Rattle.merging.specs.declared.waits.Waits.{Waits}
+use Rattle.merging.specs.declared.waits.WaitsDone.{WaitsDone}
 use Rattle.changing.specs.KeptWaits.{both_sets, next_clock, next_left, next_right}
 
--- an order as a number
-abbrev pub order_of : Ordering → ℕ
-order_of Ordering.lt = 0
-order_of Ordering.eq = 1
-order_of Ordering.gt = 2
-
--- n dots from k on: the actors, with their counters
-unfoldable pub dots_from : List ℕ → List ℕ → ℕ → ℕ → Clock
-dots_from vs cs k zero = []
-dots_from vs cs k (suc n) = dot (get_or vs k 0) (get_or cs k 0) ∷ dots_from vs cs (k + 1) n
+-- what the side that is next has: the first, unless it is the second alone
+abbrev pub of_side : {A : Type 0} → Order → A → A → A
+of_side Less x y = x
+of_side Equal x y = x
+of_side Greater x y = y
 
 -- ---- members
 
@@ -58,6 +56,7 @@ pub record WroteMembers (out : List ℕ) (at : ℕ) (ms : List ℕ) (out' : List
 -- ---- one waiting remove
 
 pub record PartAt (s : List ℕ) (p taken : ℕ) (r : Part) : Type 0 where
+  pub start : r.start ≡ p
   pub names : r.names ≡ clock_end s p + 4
   pub count : r.count ≡ pick (eqb taken 0) 0 (u32_at s (clock_end s p))
   pub end : r.end ≡ pick (eqb taken 0) p (wait_end s p)
@@ -73,14 +72,14 @@ pub record Whole (s : List ℕ) (p : ℕ) (x : Part) : Type 0 where
   pub normal : Normal member_sets (members_at s x.names x.count)
   pub named : x.count ≤ 512
 
--- the waiting remove that is next: the one at p of s, or at q of t where side is 2; a side that doesn't have it names no members
-pub record Next (side : ℕ) (s : List ℕ) (p : ℕ) (x : Part) (t : List ℕ) (q : ℕ) (y : Part) : Type 0 where
-  pub left : (side ≡ 2 → ⊥) → Whole s p x
-  pub right : (side ≡ 0 → ⊥) → Whole t q y
-  pub left_none : side ≡ 2 → x.count ≡ 0
-  pub right_none : side ≡ 0 → y.count ≡ 0
-  pub left_small : p < 4294967296
-  pub right_small : q < 4294967296
+-- the waiting remove that is next: x of s, or y of t; a side that doesn't have it names no members
+pub record Next (side : Order) (s : List ℕ) (x : Part) (t : List ℕ) (y : Part) : Type 0 where
+  pub left : (side ≡ Greater → ⊥) → Whole s x.start x
+  pub right : (side ≡ Less → ⊥) → Whole t y.start y
+  pub left_none : side ≡ Greater → x.count ≡ 0
+  pub right_none : side ≡ Less → y.count ≡ 0
+  pub left_small : x.start < 4294967296
+  pub right_small : y.start < 4294967296
   pub ready : MembersReady s x.names x.count t y.names y.count
 
 -- the waiting remove of a clock and members, unless it is covered
@@ -150,7 +149,7 @@ pub record WaitsReady (v : Clock) (s : List ℕ) (p m : ℕ) (t : List ℕ) (q k
   pub clock_ok : Normal clocks v
 
 -- waiting removes written from a place on: how many, where they end, and whether one names more than 32 members
-pub record WroteWaits (out : List ℕ) (at : ℕ) (ws : List Wait) (out' : List ℕ) (r : Waits) : Type 0 where
+pub record WroteWaits (out : List ℕ) (at : ℕ) (ws : List Wait) (out' : List ℕ) (r : WaitsDone) : Type 0 where
   pub count : r.n ≡ length ws
   pub ends : r.at ≡ at + length (encode_waits ws)
   pub most : ltb 32 r.most ≡ ltb 32 (most_named ws)

@@ -6,7 +6,7 @@ ghost use Rattle.results.specs.Call.{Meets};
 ghost use Rattle.merging.specs.Merge.{merge_call};
 
 use crate::draft::drafted;
-use results::Written;
+use dots::Refused;
 
 mod ahead;
 mod applying;
@@ -21,27 +21,13 @@ pub use applying::apply;
 pub use reset::reset_remove;
 
 // The merge of two replicas, written from byte 0. Refuses 1, 2; then 6, 7, 8, 9 on the finished result; then 10.
-pub fn merge(a: &[u8], b: &[u8], out: &mut [u8]) -> Written
+pub fn merge(a: &[u8], b: &[u8], out: &mut [u8]) -> Result<usize, Refused>
     ensures { Meets full (merge_call a.now b.now) out.old result out.new }
 {
-    let x = image::check(a);
-    if x.good {
-        let y = image::check(b);
-        if y.good {
-            let va = x.clock;
-            let vb = y.clock;
-            let m = va.merge(vb);
-            if m.no != 0 {
-                return results::refused(6);
-            }
-            let v = m.clock;
-            let mut body = [0u8; 18268];
-            let d = drafted(a, x, b, y, v, y.waits, v, &mut body, 28 + 12 * v.len);
-            results::finish(v, d, &body, out)
-        } else {
-            results::refused(2)
-        }
-    } else {
-        results::refused(1)
-    }
+    let x = image::check(a).ok_or(Refused::BadImage)?;
+    let y = image::check(b).ok_or(Refused::BadSecond)?;
+    let v = x.clock.merge(y.clock)?;
+    let mut body = [0u8; 18268];
+    let d = drafted(a, &x, b, &y, v, y.waits, v, &mut body);
+    results::finish(v, d, &body, out)
 }

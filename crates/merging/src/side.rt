@@ -12,6 +12,14 @@ use dots::Dot;
 use image::Image;
 use lists::Members;
 
+// What an operation carries: a clock, members, and how many of these have the clock as entries.
+#[derive(Clone, Copy)]
+pub(crate) struct Carried {
+    pub(crate) clock: VClock,
+    pub(crate) members: Members,
+    pub(crate) rows: usize,
+}
+
 // Writes an entry of one dot.
 fn put_one(s: &mut [u8], p: usize, member: u32, d: Dot)
     requires { p < 65536 }
@@ -30,21 +38,22 @@ fn put_rows(s: &mut [u8], m: Members, n: usize, c: VClock) -> [u32; 64]
 {
     let d = c.dots[0];
     let mut places = [0u32; 64];
-    let mut i: usize = 0;
-    while i < n {
+    for i in 0..n {
         let p = 28 + 20 * i;
         places[i] = p as u32;
         put_one(s, p, m.at[i], d);
-        i += 1;
     }
     places
 }
 
-// The first n members with the clock c as entries, and the members' remove by c as one that waits. Returns where they stand.
-pub(crate) fn put_side(s: &mut [u8], c: VClock, m: Members, n: usize) -> Image
-    requires { SideReady c m n }
-    ensures { (s.new ≡ sets s.old 0 (encode (side_of c m n))) × Brings (side_of c m n) (encode (side_of c m n)) result × (length (encode (side_of c m n)) ≡ 36 + 20 * n + 12 * c.len + 4 * m.len) }
+// The first members with the clock as entries, and the members' remove by the clock as one that waits. Returns where they stand.
+pub(crate) fn put_side(s: &mut [u8], o: Carried) -> Image
+    requires { SideReady o.clock o.members o.rows }
+    ensures { (s.new ≡ sets s.old 0 (encode (side_of o.clock o.members o.rows))) × Brings (side_of o.clock o.members o.rows) (encode (side_of o.clock o.members o.rows)) result × (length (encode (side_of o.clock o.members o.rows)) ≡ 36 + 20 * o.rows + 12 * o.clock.len + 4 * o.members.len) }
 {
+    let c = o.clock;
+    let m = o.members;
+    let n = o.rows;
     let q = 28 + 20 * n;
     let total = q + 8 + 12 * c.len + 4 * m.len;
     fields::put_contents(s, total as u32, 28, n as u32, q as u32, 1);
@@ -56,7 +65,6 @@ pub(crate) fn put_side(s: &mut [u8], c: VClock, m: Members, n: usize) -> Image
     starts[0] = q as u32;
     let clock = VClock::new();
     Image {
-        good: true,
         clock,
         entries: n,
         places,

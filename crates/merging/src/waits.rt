@@ -1,107 +1,76 @@
 // Waiting removes of two sides in bytes, joined by equal clock, less those that a clock covers.
-ghost use Rattle.std.specs.Prelude.{◌≡◌, true, eqb, length};
-ghost use Prim.Native.Nat.{◌+◌, ◌*◌, ◌<◌, ◌≤◌, compare, max, min};
+ghost use Rattle.std.specs.Prelude.{◌≡◌, true, length};
+ghost use Prim.Native.Nat.{◌+◌, ◌*◌, ◌<◌, ◌≤◌};
 ghost use Rattle.tables.specs.Order.{lex};
-ghost use Rattle.tables.specs.Table.{pick};
 ghost use Rattle.tables.specs.Zip.{turn_of};
+ghost use Rattle.dots.specs.Calls.{ordered};
 ghost use Rattle.dots.specs.Dot.{cmp_dot};
 ghost use Rattle.dots.specs.Covering.{cover_of};
+ghost use Rattle.clocks.specs.VClock.{dots_of};
 ghost use Rattle.replica.specs.Replica.{waits};
 ghost use Rattle.layout.specs.Clock.{dot_at, dots_at, clock_at, clock_end};
 ghost use Rattle.layout.specs.Rows.{members_at, waits_at};
 ghost use Rattle.layout.specs.Image.{image_of, good_image};
 ghost use Rattle.changing.specs.KeptWaits.{both_sets, kept_waits};
-ghost use Rattle.merging.specs.Waiting.{order_of, dots_from, Named, MembersReady, WroteMembers, PartAt, Whole, Next, PutWait, WaitsAhead, MergedWait, WaitsReady, WroteWaits};
+ghost use Rattle.merging.specs.Waiting.{of_side, Named, MembersReady, WroteMembers, PartAt, Whole, Next, PutWait, WaitsAhead, MergedWait, WaitsReady, WroteWaits};
 
-use crate::ahead::{key_at, lower, meets, wide};
-use crate::entries::{counter_in, met_in, u32_in, u64_in};
+use crate::ahead::{lowest, meets};
+use crate::entries::{Dots, u32_in, u64_in};
+use clocks::VClock;
 use fields::index;
+use std::cmp::Ordering;
 
-// 0 where the first number is smaller, 1 where both are equal, 2 where the second is smaller.
-fn by_number(x: u64, y: u64) -> usize
-    ensures { result ≡ order_of (compare x y) }
-{
-    if x < y {
-        return 0;
-    }
-    if y < x { 2 } else { 1 }
-}
-
-// Which of two dots in bytes is first, by actor, then counter: 0, 1 or 2 as above.
-fn dot_order(s: &[u8], p: usize, t: &[u8], q: usize) -> usize
+// Which of two dots in bytes is first, by actor, then counter. It and the next stand here for two images and in scan for one: both ask that the dots
+// lie inside, and a public function asks nothing.
+fn dot_order(s: &[u8], p: usize, t: &[u8], q: usize) -> Ordering
     requires { (p + 12 ≤ length s.now) × (q + 12 ≤ length t.now) }
-    ensures { result ≡ order_of (cmp_dot (dot_at s.now p) (dot_at t.now q)) }
+    ensures { result ≡ ordered (cmp_dot (dot_at s.now p) (dot_at t.now q)) }
 {
-    let a = by_number(wide(u32_in(s, p)), wide(u32_in(t, q)));
-    if a != 1 {
-        return a;
-    }
-    by_number(u64_in(s, p + 4), u64_in(t, q + 4))
-}
-
-// The smaller of two counts.
-fn fewer(n: usize, m: usize) -> usize
-    ensures { result ≡ min n m }
-{
-    if n < m { n } else { m }
+    (u32_in(s, p), u64_in(s, p + 4)).cmp(&(u32_in(t, q), u64_in(t, q + 4)))
 }
 
 // Which of two clocks in bytes is first: the n dots at p of s, or the m at q of t.
-fn order(s: &[u8], p: usize, n: usize, t: &[u8], q: usize, m: usize) -> usize
+fn order(s: &[u8], p: usize, n: usize, t: &[u8], q: usize, m: usize) -> Ordering
     requires { (p + 12 * n ≤ length s.now) × (q + 12 * m ≤ length t.now) }
-    ensures { result ≡ order_of (lex cmp_dot (dots_at s.now p n) (dots_at t.now q m)) }
+    ensures { result ≡ ordered (lex cmp_dot (dots_at s.now p n) (dots_at t.now q m)) }
 {
-    let least = fewer(n, m);
-    let mut i: usize = 0;
-    while i < least {
+    for i in 0..n.min(m) {
         let d = dot_order(s, p + 12 * i, t, q + 12 * i);
-        if d != 1 {
+        if d.is_ne() {
             return d;
         }
-        i += 1;
     }
-    by_number(n as u64, m as u64)
+    n.cmp(&m)
 }
 
-// Which of the waiting removes ahead is next: the one at p of s, where m are left, or the one at q of t, where k are; 1 where both are.
-fn next_wait(s: &[u8], p: usize, m: usize, t: &[u8], q: usize, k: usize) -> usize
+// Which of the waiting removes ahead is next: the one at p of s, where m are left, or the one at q of t, where k are; or both at once.
+fn next_wait(s: &[u8], p: usize, m: usize, t: &[u8], q: usize, k: usize) -> Ordering
     requires { (0 < m + k) × (0 < m → clock_end s.now p ≤ length s.now) × (0 < k → clock_end t.now q ≤ length t.now) }
-    ensures { result ≡ order_of (turn_of waits (waits_at s.now p m) (waits_at t.now q k)) }
+    ensures { result ≡ ordered (turn_of waits (waits_at s.now p m) (waits_at t.now q k)) }
 {
     if k == 0 {
-        return 0;
+        return Ordering::Less;
     }
     if m == 0 {
-        return 2;
+        return Ordering::Greater;
     }
-    order(
-        s,
-        p + 4,
-        index(fields::u32_at(s, p)),
-        t,
-        q + 4,
-        index(fields::u32_at(t, q)),
-    )
+    let n = index(fields::u32_at(s, p));
+    let l = index(fields::u32_at(t, q));
+    order(s, p + 4, n, t, q + 4, l)
 }
 
-// Whether the clock of k actors and their counters covers the n dots at p: one walk along the actors.
-fn covered(s: &[u8], p: usize, n: usize, actors: &[u32; 16], k: usize, line: &[u64; 16]) -> bool
-    requires { (p + 12 * n ≤ length s.now) × (k ≤ 16) }
-    ensures { result ≡ cover_of (dots_from actors.now line.now 0 k) (dots_at s.now p n) }
+// Whether a clock covers the n dots at p: one walk along its actors.
+fn covered(s: &[u8], p: usize, n: usize, v: &VClock) -> bool
+    requires { (p + 12 * n ≤ length s.now) × (v.now.len ≤ 16) }
+    ensures { result ≡ cover_of (dots_of v.now) (dots_at s.now p n) }
 {
-    let mut at = p;
-    let mut left = n;
-    let mut i: usize = 0;
-    while i < k {
-        let met = met_in(s, at, left, actors[i]);
-        if line[i] < counter_in(s, at, met) {
+    let mut ahead = Dots { at: p, left: n };
+    for d in &v.dots[..v.len] {
+        if d.counter < ahead.take(s, d.actor.0) {
             return false;
         }
-        at += 12 * met;
-        left -= met;
-        i += 1;
     }
-    left == 0
+    ahead.left == 0
 }
 
 // Where a walk along two lists of members stands: the next of each, how many are left, and how many were written.
@@ -119,7 +88,7 @@ fn name(s: &[u8], t: &[u8], out: &mut [u8], at: usize, w: Names) -> Names
     requires { (0 < w.m + w.k) × MembersReady s.now w.p w.m t.now w.q w.k × (at + 4 * w.n < 1099511627776) }
     ensures { Named s.now t.now out.old at w out.new result }
 {
-    let low = lower(key_at(s, w.p, w.m), key_at(t, w.q, w.k)) as u32;
+    let low = lowest(s, w.p, w.m, t, w.q, w.k);
     let i = meets(s, w.p, w.m, low);
     let j = meets(t, w.q, w.k, low);
     fields::put_u32(out, at + 4 * w.n, low);
@@ -153,14 +122,16 @@ fn unite(
     w.n
 }
 
-// The members of the waiting remove at a place, and where it ends; none, and the place itself, where it isn't taken.
+// The waiting remove at a place: where it starts, its members, and where it ends; none, and the start itself, where it isn't taken.
 #[derive(Clone, Copy)]
 pub(crate) struct Part {
+    start: usize,
     pub(crate) names: usize,
     count: usize,
     pub(crate) end: usize,
 }
 
+// `taken` is 0 or 1: the walk counts by it too.
 pub(crate) fn part_at(s: &[u8], p: usize, taken: usize) -> Part
     requires { p < 4294967296 }
     ensures { PartAt s.now p taken result }
@@ -168,6 +139,7 @@ pub(crate) fn part_at(s: &[u8], p: usize, taken: usize) -> Part
     let e = p + 4 + 12 * index(fields::u32_at(s, p));
     if taken == 0 {
         return Part {
+            start: p,
             names: e + 4,
             count: 0,
             end: p,
@@ -175,13 +147,15 @@ pub(crate) fn part_at(s: &[u8], p: usize, taken: usize) -> Part
     }
     let count = index(fields::u32_at(s, e));
     Part {
+        start: p,
         names: e + 4,
         count,
         end: e + 4 + 4 * count,
     }
 }
 
-// What a turn wrote: how many bytes, how many waiting removes, and how many members it names.
+// What a turn wrote: how many bytes, how many waiting removes, and how many members it names. Zeros and no option where it wrote nothing: the walk adds
+// two of them up and keeps the largest of the third.
 #[derive(Clone, Copy)]
 pub(crate) struct Put {
     long: usize,
@@ -189,22 +163,14 @@ pub(crate) struct Put {
     names: usize,
 }
 
-// The waiting remove at p of s, written as it stands from `at` on; nothing where the clock covers it.
-fn copy_wait(
-    s: &[u8],
-    p: usize,
-    x: Part,
-    actors: &[u32; 16],
-    k: usize,
-    line: &[u64; 16],
-    out: &mut [u8],
-    at: usize,
-) -> Put
-    requires { Whole s.now p x × (p < 4294967296) × (k ≤ 16) }
-    ensures { PutWait (cover_of (dots_from actors.now line.now 0 k) (clock_at s.now p)) (clock_at s.now p) (members_at s.now x.names x.count) x.count out.old at out.new result }
+// A waiting remove of s, written as it stands from `at` on; nothing where the clock covers it.
+fn copy_wait(s: &[u8], x: Part, v: &VClock, out: &mut [u8], at: usize) -> Put
+    requires { Whole s.now x.start x × (x.start < 4294967296) × (v.now.len ≤ 16) }
+    ensures { PutWait (cover_of (dots_of v.now) (clock_at s.now x.start)) (clock_at s.now x.start) (members_at s.now x.names x.count) x.count out.old at out.new result }
 {
+    let p = x.start;
     let n = index(fields::u32_at(s, p));
-    if covered(s, p + 4, n, actors, k, line) {
+    if covered(s, p + 4, n, v) {
         return Put {
             long: 0,
             count: 0,
@@ -219,24 +185,14 @@ fn copy_wait(
     }
 }
 
-// The waiting remove at p of s with the members of both parts, written from `at` on; nothing where the clock covers it.
-fn put_wait(
-    s: &[u8],
-    p: usize,
-    x: Part,
-    t: &[u8],
-    y: Part,
-    actors: &[u32; 16],
-    k: usize,
-    line: &[u64; 16],
-    out: &mut [u8],
-    at: usize,
-) -> Put
-    requires { Whole s.now p x × (p < 4294967296) × (k ≤ 16) × (at < 274877906944) × (y.count ≤ 512) × MembersReady s.now x.names x.count t.now y.names y.count }
-    ensures { PutWait (cover_of (dots_from actors.now line.now 0 k) (clock_at s.now p)) (clock_at s.now p) (both_sets (members_at s.now x.names x.count) (members_at t.now y.names y.count)) (x.count + y.count) out.old at out.new result }
+// A waiting remove of s with the members of both parts, written from `at` on; nothing where the clock covers it.
+fn put_wait(s: &[u8], x: Part, t: &[u8], y: Part, v: &VClock, out: &mut [u8], at: usize) -> Put
+    requires { Whole s.now x.start x × (x.start < 4294967296) × (v.now.len ≤ 16) × (at < 274877906944) × (y.count ≤ 512) × MembersReady s.now x.names x.count t.now y.names y.count }
+    ensures { PutWait (cover_of (dots_of v.now) (clock_at s.now x.start)) (clock_at s.now x.start) (both_sets (members_at s.now x.names x.count) (members_at t.now y.names y.count)) (x.count + y.count) out.old at out.new result }
 {
+    let p = x.start;
     let n = index(fields::u32_at(s, p));
-    if covered(s, p + 4, n, actors, k, line) {
+    if covered(s, p + 4, n, v) {
         return Put {
             long: 0,
             count: 0,
@@ -259,96 +215,61 @@ fn put_wait(
 // and the most members that one names.
 #[derive(Clone, Copy)]
 pub(crate) struct Waits {
-    pub(crate) p: usize,
-    pub(crate) m: usize,
-    pub(crate) q: usize,
-    pub(crate) k: usize,
-    pub(crate) at: usize,
-    pub(crate) n: usize,
-    pub(crate) most: usize,
+    p: usize,
+    m: usize,
+    q: usize,
+    k: usize,
+    at: usize,
+    n: usize,
+    most: usize,
 }
 
-// 1 unless the number is the one given.
-fn unless(side: usize, not: usize) -> usize
-    ensures { result ≡ pick (eqb side not) 0 1 }
+// Whether the members of two parts are the same.
+fn same_members(s: &[u8], x: Part, t: &[u8], y: Part) -> bool
+    requires { (x.names + 4 * x.count ≤ length s.now) × (y.names + 4 * y.count ≤ length t.now) }
+    ensures { result ≡ true → members_at s.now x.names x.count ≡ members_at t.now y.names y.count }
 {
-    if side == not { 0 } else { 1 }
-}
-
-// The larger of two counts.
-fn more(x: usize, y: usize) -> usize
-    ensures { result ≡ max x y }
-{
-    if x < y { y } else { x }
-}
-
-// Whether the n members at p of s are the m at q of t.
-fn same_members(s: &[u8], p: usize, n: usize, t: &[u8], q: usize, m: usize) -> bool
-    requires { (p + 4 * n ≤ length s.now) × (q + 4 * m ≤ length t.now) }
-    ensures { result ≡ true → members_at s.now p n ≡ members_at t.now q m }
-{
-    if n != m {
-        return false;
-    }
-    let mut i: usize = 0;
-    while i < n {
-        if u32_in(s, p + 4 * i) != u32_in(t, q + 4 * i) {
-            return false;
-        }
-        i += 1;
-    }
-    true
+    s[x.names..x.names + 4 * x.count] == t[y.names..y.names + 4 * y.count]
 }
 
 // The waiting remove that is next, with the members of each side that has it: copied, unless both have it and name other members.
 fn put_next(
-    side: usize,
+    side: Ordering,
     s: &[u8],
-    p: usize,
     x: Part,
     t: &[u8],
-    q: usize,
     y: Part,
-    actors: &[u32; 16],
-    k: usize,
-    line: &[u64; 16],
+    v: &VClock,
     out: &mut [u8],
     at: usize,
 ) -> Put
-    requires { Next side s.now p x t.now q y × (k ≤ 16) × (at < 274877906944) }
-    ensures { PutWait (cover_of (dots_from actors.now line.now 0 k) (pick (eqb side 2) (clock_at t.now q) (clock_at s.now p))) (pick (eqb side 2) (clock_at t.now q) (clock_at s.now p)) (both_sets (members_at s.now x.names x.count) (members_at t.now y.names y.count)) (x.count + y.count) out.old at out.new result }
+    requires { Next side s.now x t.now y × (v.now.len ≤ 16) × (at < 274877906944) }
+    ensures { PutWait (cover_of (dots_of v.now) (of_side side (clock_at s.now x.start) (clock_at t.now y.start))) (of_side side (clock_at s.now x.start) (clock_at t.now y.start)) (both_sets (members_at s.now x.names x.count) (members_at t.now y.names y.count)) (x.count + y.count) out.old at out.new result }
 {
-    if side == 2 {
-        return copy_wait(t, q, y, actors, k, line, out, at);
+    match side {
+        Ordering::Less => copy_wait(s, x, v, out, at),
+        Ordering::Greater => copy_wait(t, y, v, out, at),
+        Ordering::Equal => {
+            if same_members(s, x, t, y) {
+                copy_wait(s, x, v, out, at)
+            } else {
+                put_wait(s, x, t, y, v, out, at)
+            }
+        }
     }
-    if side == 0 {
-        return copy_wait(s, p, x, actors, k, line, out, at);
-    }
-    if same_members(s, x.names, x.count, t, y.names, y.count) {
-        return copy_wait(s, p, x, actors, k, line, out, at);
-    }
-    put_wait(s, p, x, t, y, actors, k, line, out, at)
 }
 
 // The next waiting remove: written, unless it is covered, and stepped past.
-fn merge_wait(
-    s: &[u8],
-    t: &[u8],
-    actors: &[u32; 16],
-    k: usize,
-    line: &[u64; 16],
-    out: &mut [u8],
-    w: Waits,
-) -> Waits
-    requires { WaitsAhead s.now t.now w × (k ≤ 16) × (w.at < 274877906944) × (w.n ≤ 64) }
-    ensures { MergedWait (dots_from actors.now line.now 0 k) s.now t.now out.old w out.new result }
+fn merge_wait(s: &[u8], t: &[u8], v: &VClock, out: &mut [u8], w: Waits) -> Waits
+    requires { WaitsAhead s.now t.now w × (v.now.len ≤ 16) × (w.at < 274877906944) × (w.n ≤ 64) }
+    ensures { MergedWait (dots_of v.now) s.now t.now out.old w out.new result }
 {
     let side = next_wait(s, w.p, w.m, t, w.q, w.k);
-    let i = unless(side, 2);
-    let j = unless(side, 0);
+    let i = usize::from(side.is_le());
+    let j = usize::from(side.is_ge());
     let x = part_at(s, w.p, i);
     let y = part_at(t, w.q, j);
-    let r = put_next(side, s, w.p, x, t, w.q, y, actors, k, line, out, w.at);
+    let r = put_next(side, s, x, t, y, v, out, w.at);
     Waits {
         p: x.end,
         m: w.m - i,
@@ -356,54 +277,57 @@ fn merge_wait(
         k: w.k - j,
         at: w.at + r.long,
         n: w.n + r.count,
-        most: more(w.most, r.names),
+        most: w.most.max(r.names),
     }
 }
 
-// The waiting removes that two images keep, written from `at` on: s has m from p on, t has l from q on.
-pub(crate) fn merge_waits(
-    s: &[u8],
-    p: usize,
-    m: usize,
-    t: &[u8],
-    q: usize,
-    l: usize,
-    actors: &[u32; 16],
-    k: usize,
-    line: &[u64; 16],
-    out: &mut [u8],
-    at: usize,
-) -> Waits
-    requires { WaitsReady (dots_from actors.now line.now 0 k) s.now p m t.now q l × (k ≤ 16) × (at < 4294967296) }
-    ensures { WroteWaits out.old at (kept_waits (dots_from actors.now line.now 0 k) (waits_at s.now p m) (waits_at t.now q l)) out.new result }
+// What was written of waiting removes: where they end, how many they are, and the most members that one names; or 0, where none names over 32.
+#[derive(Clone, Copy)]
+pub(crate) struct WaitsDone {
+    pub(crate) at: usize,
+    pub(crate) n: usize,
+    pub(crate) most: usize,
+}
+
+// The walk before its first step: m waiting removes from p on, and k from q on, to be written from `at` on.
+pub(crate) fn ahead(p: usize, m: usize, q: usize, k: usize, at: usize) -> Waits
+    ensures { result ≡ record { p = p; m = m; q = q; k = k; at = at; n = 0; most = 0 } }
 {
-    let mut w = Waits {
+    Waits {
         p,
         m,
         q,
-        k: l,
+        k,
         at,
         n: 0,
         most: 0,
-    };
-    while w.m + w.k > 0 {
-        w = merge_wait(s, t, actors, k, line, out, w);
     }
-    w
+}
+
+// The waiting removes that two images keep, from the start of a walk along them on.
+pub(crate) fn merge_waits(s: &[u8], t: &[u8], v: &VClock, out: &mut [u8], start: Waits) -> WaitsDone
+    requires { WaitsReady (dots_of v.now) s.now start.p start.m t.now start.q start.k × (v.now.len ≤ 16) × (start.at < 4294967296) × (start.n ≡ 0) × (start.most ≡ 0) }
+    ensures { WroteWaits out.old start.at (kept_waits (dots_of v.now) (waits_at s.now start.p start.m) (waits_at t.now start.q start.k)) out.new result }
+{
+    let mut w = start;
+    while w.m + w.k > 0 {
+        w = merge_wait(s, t, v, out, w);
+    }
+    WaitsDone {
+        at: w.at,
+        n: w.n,
+        most: w.most,
+    }
 }
 
 // The waiting removes of an image, its last part, copied as they stand: written from `at` on.
-pub(crate) fn copy_waits(img: &[u8], out: &mut [u8], at: usize) -> Waits
+pub(crate) fn copy_waits(img: &[u8], out: &mut [u8], at: usize) -> WaitsDone
     requires { (good_image img.now ≡ true) × (at < 4294967296) }
     ensures { WroteWaits out.old at (image_of img.now).waiting out.new result }
 {
     let q = index(fields::u32_at(img, 16));
     results::copy(img, q, img.len(), out, at);
-    Waits {
-        p: 0,
-        m: 0,
-        q: 0,
-        k: 0,
+    WaitsDone {
         at: at + (img.len() - q),
         n: index(fields::u32_at(img, 20)),
         most: 0,

@@ -1,13 +1,13 @@
 -- Numbers at the edge of the bytes: room tested without a sum that could wrap, and bytes taken one by one.
 use Prim.Native.Nat.{ℕ, ◌+◌, ◌-◌, ◌*◌, ◌/◌, ◌%◌, ◌≤◌}
-use mathlib.Core.Path.{◌≡◌, refl, sym}
+use mathlib.Core.Path.{◌≡◌, refl, sym, ap, ◌∙◌}
 use mathlib.Core.Bool.{Bool, true, false}
-use mathlib.Core.List.{List}
+use mathlib.Core.List.{List, ◌++◌, append_assoc}
 use native.Mathlib.Omega.{arith}
 use native.Mathlib.Numerals.{add-one, add-two, add-three}
 use lib.Dec.{leb}
-use lib.ListN.{get_or, set}
-use lib.Seq.{sets}
+use lib.ListN.{length, get_or, set, take, drop}
+use lib.Seq.{sets, sets-eq, drop-drop}
 use borrow.Author.Tests.{leb-true, leb-false, le-leb, lt-leb}
 use Rattle.layout.specs.Fields.{u16_at, u32_at, le32}
 
@@ -35,3 +35,9 @@ module _ (s : List ℕ) (at k : ℕ) where
       → l₃ ≡ set l₂ (at + (k + 2)) (v / 65536 % 256) → l₄ ≡ set l₃ (at + (k + 3)) (v / 16777216 % 256) → l₄ ≡ sets s (at + k) (le32 v)
   unfolding le32
   le32_bytes v l₁ l₂ l₃ l₄ p q r t = rw (t, r, q, p, after 1, after 2, after 3) (simp (add-one, add-two, add-three))
+
+-- four bytes put in the place of those that stand there
+pub part_set : (s vs : List ℕ) (at : ℕ) → length vs ≡ 4 → at + 4 ≤ length s → take at s ++ (vs ++ drop (at + 4 - at) (drop at s)) ≡ sets s at vs
+part_set s vs at e h =
+    let q : at + (at + 4 - at) ≡ at + length vs = omega arith in
+    ap (λ (r : List ℕ). take at s ++ (vs ++ r)) (drop-drop (at + 4 - at) at s ∙ ap (λ (j : ℕ). drop j s) q) ∙ sym (append_assoc (take at s) vs (drop (at + length vs) s)) ∙ sym (sets-eq vs s at (omega arith))

@@ -5,13 +5,6 @@ ghost use Rattle.std.specs.Prelude.{◌≡◌, ◌+◌, ◌*◌, ◌<◌, ◌≤
 ghost use Rattle.std.proofs.lemmas.List.Edits.{sets};
 ghost use Rattle.layout.specs.Fields.{u16_at, u32_at, u64_at, le32, le64};
 
-// A byte as a u32. Its callers learn that it is below 256.
-fn wide(x: u8) -> u32
-    ensures { (result ≡ x) × (result < 256) }
-{
-    x as u32
-}
-
 // A 32-bit number as a place or a count. Its callers learn that it is below 2^32.
 pub fn index(x: u32) -> usize
     ensures { (result ≡ x) × (result < 4294967296) }
@@ -23,23 +16,14 @@ pub fn index(x: u32) -> usize
 fn room(s: &[u8], at: usize, n: usize) -> bool
     ensures { result ≡ leb (at + n) (length s.now) }
 {
-    if s.len() < n {
-        return false;
-    }
-    at <= s.len() - n
+    n <= s.len() && at <= s.len() - n
 }
 
 // The byte k after a place; 0 past the end.
-fn byte_after(s: &[u8], at: usize, k: usize) -> u32
-    ensures { (result ≡ get_or s.now (at + k) 0) × (result < 256) }
+fn byte_after(s: &[u8], at: usize, k: usize) -> u8
+    ensures { result ≡ get_or s.now (at + k) 0 }
 {
-    if s.len() <= at {
-        return 0;
-    }
-    if s.len() - at <= k {
-        return 0;
-    }
-    wide(s[at + k])
+    s.get(at.saturating_add(k)).copied().unwrap_or(0)
 }
 
 // Four bytes that lie inside.
@@ -47,7 +31,7 @@ fn load(s: &[u8], at: usize) -> u32
     requires { at + 4 ≤ length s.now }
     ensures { result ≡ u32_at s.now at }
 {
-    wide(s[at]) + wide(s[at + 1]) * 256 + wide(s[at + 2]) * 65536 + wide(s[at + 3]) * 16777216
+    u32::from_le_bytes([s[at], s[at + 1], s[at + 2], s[at + 3]])
 }
 
 // Four bytes that may lie past the end.
@@ -55,17 +39,19 @@ fn load_edge(s: &[u8], at: usize, k: usize) -> u32
     requires { k ≤ 4 }
     ensures { result ≡ u32_at s.now (at + k) }
 {
-    byte_after(s, at, k)
-        + byte_after(s, at, k + 1) * 256
-        + byte_after(s, at, k + 2) * 65536
-        + byte_after(s, at, k + 3) * 16777216
+    u32::from_le_bytes([
+        byte_after(s, at, k),
+        byte_after(s, at, k + 1),
+        byte_after(s, at, k + 2),
+        byte_after(s, at, k + 3),
+    ])
 }
 
 // The 16-bit number at a place.
 pub fn u16_at(s: &[u8], at: usize) -> u32
     ensures { result ≡ u16_at s.now at }
 {
-    byte_after(s, at, 0) + byte_after(s, at, 1) * 256
+    u32::from(u16::from_le_bytes([byte_after(s, at, 0), byte_after(s, at, 1)]))
 }
 
 // The 32-bit number at a place.
@@ -94,13 +80,10 @@ pub fn u64_at(s: &[u8], at: usize) -> u64
 fn put_after(s: &mut [u8], at: usize, k: usize, v: u8)
     ensures { s.new ≡ set s.old (at + k) v }
 {
-    if s.len() <= at {
-        return;
+    let place = at.saturating_add(k);
+    if place < s.len() {
+        s[place] = v;
     }
-    if s.len() - at <= k {
-        return;
-    }
-    s[at + k] = v;
 }
 
 // Writes four bytes that lie inside.
@@ -108,10 +91,7 @@ fn store(s: &mut [u8], at: usize, v: u32)
     requires { at + 4 ≤ length s.old }
     ensures { s.new ≡ sets s.old at (le32 v) }
 {
-    s[at] = (v % 256) as u8;
-    s[at + 1] = (v / 256 % 256) as u8;
-    s[at + 2] = (v / 65536 % 256) as u8;
-    s[at + 3] = (v / 16777216 % 256) as u8;
+    s[at..at + 4].copy_from_slice(&v.to_le_bytes());
 }
 
 // Writes four bytes that may lie past the end.
@@ -119,10 +99,11 @@ fn store_edge(s: &mut [u8], at: usize, k: usize, v: u32)
     requires { k ≤ 4 }
     ensures { s.new ≡ sets s.old (at + k) (le32 v) }
 {
-    put_after(s, at, k, (v % 256) as u8);
-    put_after(s, at, k + 1, (v / 256 % 256) as u8);
-    put_after(s, at, k + 2, (v / 65536 % 256) as u8);
-    put_after(s, at, k + 3, (v / 16777216 % 256) as u8);
+    let [a, b, c, d] = v.to_le_bytes();
+    put_after(s, at, k, a);
+    put_after(s, at, k + 1, b);
+    put_after(s, at, k + 2, c);
+    put_after(s, at, k + 3, d);
 }
 
 // Writes a 32-bit number.

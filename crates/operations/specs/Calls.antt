@@ -1,10 +1,15 @@
 -- The calls that apply or judge an operation, and the reset, as document 01 says them.
-use Rattle.std.specs.Prelude.{ℕ, ◌≡◌, refl, not, List, [], ◌∷◌, ◌++◌, ltb, eqb, length}
-use Rattle.std.proofs.Common.{sym, ap, ◌∙◌}
+use Rattle.std.specs.Prelude.{ℕ, ◌≡◌, refl, not, Result, Ok, Err, ⊤, List, [], ◌∷◌, ◌++◌, ltb, eqb, length}
+use Rattle.std.proofs.Common.{sym, ap, ◌∙◌, arith, ne_eqb}
 use Rattle.std.proofs.Math.Option.{Option, none, some}
 use Rattle.tables.specs.Table.{pick}
 use Rattle.tables.specs.Refusal.{Refusal, ◌if◌, first_of}
 use Rattle.dots.specs.declared.DotRange.{DotRange}
+use Rattle.dots.specs.declared.refusals.Refused.{Refused as DotRefused}
+use Rattle.dots.specs.declared.refusals.OpRefused.{OpRefused}
+use Rattle.dots.specs.declared.refusals.OpRefused.TheVariants.{Refused, Gap}
+use Rattle.dots.specs.Answers.{number, op_number_in, op_answer}
+use Rattle.dots.proofs.AnswersFacts.{number_positive, refusal_number}
 use Rattle.dots.specs.Clock.{Clock, gap}
 use Rattle.clocks.specs.declared.VClock.{VClock}
 use Rattle.clocks.specs.VClock.{dots_of}
@@ -15,8 +20,6 @@ use Rattle.layout.specs.Image.{good_image, image_of}
 use Rattle.results.specs.Call.{Call}
 use Rattle.operations.specs.declared.Op.{Op}
 use Rattle.operations.specs.declared.Op.TheVariants.{Add, Remove}
-use Rattle.operations.specs.declared.OpValidation.{OpValidation}
-use Rattle.operations.specs.declared.OpValidation.TheVariants.{Valid, BadImage, BadClock, LongList, Gap}
 
 -- "An operation is an add carrying a dot, or a remove; a remove's clock and either's members come beside it."
 unfoldable pub operated : Op → Clock → List ℕ → Replica → Replica
@@ -41,7 +44,7 @@ unfoldable pub gap_of : Op → Replica → Option DotRange
 gap_of (Add d) A = gap A.clock d
 gap_of Remove A = none
 
--- the number and the values of each case of the answer; 11 carries its gap
+-- the number of an answer, and the gap that it names
 pub record Validated : Type 0 where
   pub number : ℕ
   pub range : Option DotRange
@@ -49,39 +52,34 @@ pub record Validated : Type 0 where
 abbrev pub says : ℕ → Option DotRange → Validated
 says n g = record { number = n; range = g }
 
-unfoldable pub validation_says : OpValidation → Validated
-validation_says Valid = says 0 none
-validation_says BadImage = says 1 none
-validation_says BadClock = says 3 none
-validation_says LongList = says 4 none
-validation_says (Gap g) = says 11 (some g)
+abbrev pub gap_named : Result ⊤ OpRefused → Option DotRange
+gap_named (Ok x) = none
+gap_named (Err (Refused r)) = none
+gap_named (Err (Gap g)) = some g
 
-unfoldable pub validate_op_call : List ℕ → Op → VClock → List ℕ → Validated
+unfoldable pub validation_says : Result ⊤ OpRefused → Validated
+validation_says r = says (op_number_in r) (gap_named r)
+
+unfoldable pub validate_op_call : List ℕ → Op → VClock → List ℕ → Result ⊤ OpRefused
 validate_op_call s op c ms =
     let g = gap_of op (image_of s) in
     let n = first_of (unfit_arguments s c ms ++ gapped g ∷ []) in
-    says n (pick (eqb n 11) g none)
+    op_answer n (pick (eqb n 11) g none)
 
--- "any two answers it allows are equal": the case is fixed by what it says
-data Case : Type 0 where
-  case : OpValidation → Case
-  other : Case
+-- "any two answers it allows are equal": the answer is fixed by what it says
+refused_back : (r : DotRefused) → op_answer (number r) none ≡ Err (Refused r)
+refused_back r =
+    let p = number_positive r in
+    rw (ne_eqb (number r) 0 (λ e. omega arith), refusal_number r)
 
-abbrev gap_case : Option DotRange → Case
-gap_case none = other
-gap_case (some g) = case (Gap g)
+abbrev said : Validated → Result ⊤ OpRefused
+said v = op_answer v.number v.range
 
-abbrev case_of : Validated → Case
-case_of v =
-    pick (eqb v.number 0) (case Valid) (pick (eqb v.number 1) (case BadImage) (pick (eqb v.number 3) (case BadClock) (pick (eqb v.number 4) (case LongList) (gap_case v.range))))
-
-case_says : (r : OpValidation) → case_of (validation_says r) ≡ case r
+says_back : (r : Result ⊤ OpRefused) → said (validation_says r) ≡ r
 unfolding validation_says
-case_says Valid = refl
-case_says BadImage = refl
-case_says BadClock = refl
-case_says LongList = refl
-case_says (Gap g) = refl
+says_back (Ok x) = refl
+says_back (Err (Refused r)) = refused_back r
+says_back (Err (Gap g)) = refl
 
-pub validation_one : (r s : OpValidation) → validation_says r ≡ validation_says s → r ≡ s
-validation_one r s e = let k : case r ≡ case s = sym (case_says r) ∙ ap case_of e ∙ case_says s in cc
+pub validation_one : (r s : Result ⊤ OpRefused) → validation_says r ≡ validation_says s → r ≡ s
+validation_one r s e = sym (says_back r) ∙ ap said e ∙ says_back s

@@ -1,89 +1,113 @@
--- The head of the dots ahead, and one turn of the walk along one list of dots with a place in another.
-use Prim.Native.Nat.{ℕ, ◌≤◌, ◌<◌, ◌+◌, ◌%◌}
-use mathlib.Core.Path.{◌≡◌, ap, ◌∙◌}
-use mathlib.Core.Bool.{Bool, false, ◌&&◌}
-use mathlib.Core.List.{List}
+-- One turn of the walk along one list of dots beside another, and along two.
+use Prim.Native.Nat.{ℕ, suc, ◌≤◌, ◌<◌, ◌+◌, min}
+use mathlib.Core.Path.{◌≡◌, refl, sym, ap, ◌∙◌, subst}
+use mathlib.Core.Bool.{Bool, true, false, ◌&&◌}
+use mathlib.Core.List.{List, [], ◌∷◌}
 use native.Mathlib.Omega.{arith}
-use lib.Dec.{eqb, leb}
-use lib.ListN.{length, get_or}
-use lib.Seq.{slice, slice-cons}
-use borrow.Author.Tests.{eq-eqb, ne_eqb, le-leb, lt-leb}
-use Rattle.tables.specs.Table.{pick}
-use Rattle.tables.specs.Zip.{said, past, by_lt, next_past, next_le}
-use Rattle.tables.specs.Turn.{Ahead, after}
+use native.Mathlib.Nat.{add-zero}
+use native.Mathlib.Numerals.{add-one}
+use lib.Dec.{eqb, leb, lt→ltb}
+use lib.ListN.{length, get_or, drop, set, length-set}
+use lib.Seq.{sets, set_out}
+use borrow.Author.Tests.{eq-eqb, ne_eqb}
+use Rattle.std.specs.List.{list_all}
+use Rattle.tables.specs.Table.{pick, cons?, every}
+use Rattle.tables.specs.Zip.{front, said, past, by_lt}
 use Rattle.dots.specs.declared.Dot.{Dot}
-use Rattle.dots.specs.Dot.{actor_of, dots, no_dot}
-use Rattle.dots.specs.Covering.{cover_of, by_eq}
-use Rattle.places.specs.declared.Head.{Head}
-use Rattle.places.specs.Turn.{HeadOf}
-use Rattle.places.proofs.Steps.{ahead, done}
+use Rattle.dots.specs.Dot.{actor_of, dot, dot?, dots, no_dot}
+use Rattle.dots.specs.ClockLaws.{proper_dot}
+use Rattle.dots.specs.Covering.{cover_of}
+use Rattle.places.specs.declared.Rule.{Rule}
+use Rattle.places.specs.Turn.{rule_of}
+use Rattle.places.specs.Walked.{walked, walked_step}
+use Rattle.places.proofs.Steps.{rest}
 
--- one past the largest actor
-abbrev pub beyond_actors : ℕ
-beyond_actors = 4294967296
+pub every_is : {R : Type 0} (p : R → Bool) (rs : List R) → list_all p rs ≡ every p rs
+every_is p [] = refl
+every_is p (r ∷ rs) = ap (λ (b : Bool). p r && b) (every_is p rs)
 
--- h is the first of the dots ahead, or none
-pub record Front (l : List Dot) (i n : ℕ) (h : Head) : Type 0 where
-  pub key : Ahead dots l i n beyond_actors h.key
-  pub value : (low : ℕ) → low < beyond_actors → pick (eqb h.key low) h.value 0 ≡ said dots low (slice i n l)
+-- ---- whether one covers another
 
-pub front_of : (l : List Dot) (i n : ℕ) (h : Head) → n ≤ length l → n ≤ 16 → i ≤ n → HeadOf (get_or l (i % 16) no_dot) i n h → Front l i n h
-front_of l i n h f few le o = by_lt i n
-    (λ k.
-    let at : i % 16 ≡ i = omega arith in
-    let g : get_or l (i % 16) no_dot ≡ get_or l i no_dot = ap (λ (x : ℕ). get_or l x no_dot) at in
-    let s = slice-cons i n l no_dot k f in
-    let x = rw g at (o.here k) in
+pub cover_step : (v c : List Dot) (i : ℕ) → i < length v → let d = get_or v i no_dot in
+    cover_of (drop i v) c ≡ (leb (said dots (actor_of d) c) d.counter && cover_of (drop (i + 1) v) (past dots (actor_of d) c))
+unfolding cover_of
+cover_step v c i h = rw (rest v i no_dot h)
+
+pub cover_end : (c : List Dot) → eqb (length c) 0 ≡ cover_of [] c
+unfolding cover_of
+cover_end [] = refl
+cover_end (x ∷ c) = ne_eqb (suc (length c)) 0 (λ z. omega arith)
+
+-- ---- what a turn stores: its dot, where that has a counter
+
+pub record Stored (ds : List Dot) (c : ℕ) (d : Dot) (ds' : List Dot) (c' : ℕ) : Type 0 where
+  pub store : (rest : List Dot) → sets ds' c' rest ≡ sets ds c (cons? (dot? (actor_of d) d.counter) rest)
+  pub count : (rest : List Dot) → c' + length rest ≡ c + length (cons? (dot? (actor_of d) d.counter) rest)
+  pub grows : c' ≤ c + 1
+  pub long : length ds' ≡ length ds
+
+pub stored_none : (ds : List Dot) (c : ℕ) (d : Dot) → d.counter ≡ 0 → Stored ds c d ds c
+stored_none ds c d e = record { store = λ rest. rw e; count = λ rest. rw e; grows = omega arith; long = refl }
+
+pub stored_some : (ds : List Dot) (c : ℕ) (d : Dot) → (d.counter ≡ 0 → ⊥) → Stored ds c d (set ds c d) (c + 1)
+stored_some ds c d e =
+    let p = proper_dot d (lt→ltb 0 d.counter (omega arith)) in
+    record { store = λ rest. rw (p, add-one); count = λ rest. rw p (omega arith); grows = omega arith; long = length-set ds c d }
+
+pub stored_full : (ds : List Dot) (c : ℕ) (d : Dot) → (d.counter ≡ 0 → ⊥) → length ds ≤ c → Stored ds c d ds (c + 1)
+stored_full ds c d e h = subst (λ (l : List Dot). Stored ds c d l (c + 1)) (set_out ds c d h) (stored_some ds c d e)
+
+-- ---- the walk along two: what is left of both, stored from here on, is the whole
+
+pub record Zipping (rule : Rule) (start whole xs ys ds : List Dot) (c : ℕ) : Type 0 where
+  pub few : c + (length xs + length ys) ≤ 32
+  pub long : length ds ≡ 16
+  pub store : sets ds c (walked (rule_of rule) xs ys) ≡ sets start 0 whole
+  pub count : c + length (walked (rule_of rule) xs ys) ≡ length whole
+
+-- an actor's dot goes where it is the first
+past_at : (k : ℕ) (d : Dot) (ds : List Dot) → actor_of d ≡ k → length (past dots k (d ∷ ds)) < length (d ∷ ds)
+past_at k d ds e = rw (eq-eqb (actor_of d) k e) (omega arith)
+
+past_le : (k : ℕ) (ds : List Dot) → length (past dots k ds) ≤ length ds
+past_le k [] = omega arith
+past_le k (d ∷ ds) = go (eqb (actor_of d) k)
+  where
+    go : (b : Bool) → length (pick b ds (d ∷ ds)) ≤ length (d ∷ ds)
+    go true = omega arith
+    go false = omega arith
+
+-- the lower of the two first actors goes
+pub less : (e low : ℕ) (xs ys : List Dot) → low < e → low ≡ min (front dots e xs) (front dots e ys)
+    → length (past dots low xs) + length (past dots low ys) < length xs + length ys
+less e low [] [] s m = absurd (omega arith)
+less e low [] (y ∷ ys) s m = let a = past_at low y ys (omega arith) in omega arith
+less e low (x ∷ xs) [] s m = let a = past_at low x xs (omega arith) in omega arith
+less e low (x ∷ xs) (y ∷ ys) s m =
+    let p = past_le low (x ∷ xs) in
+    let q = past_le low (y ∷ ys) in
+    by_lt (actor_of x) (actor_of y)
+    (λ h. let a = past_at low x xs (omega arith) in omega arith)
+    (λ h. let a = past_at low y ys (omega arith) in omega arith)
+
+pub again : {rule : Rule} {start whole xs ys ds : List Dot} {c : ℕ} (z : Zipping rule start whole xs ys ds c) (e low v : ℕ) → low < e → low ≡ min (front dots e xs) (front dots e ys)
+    → v ≡ rule_of rule (said dots low xs) (said dots low ys) → (ds' : List Dot) (c' : ℕ) → Stored ds c (dot low v) ds' c' → Zipping rule start whole (past dots low xs) (past dots low ys) ds' c'
+again {rule} {start} {whole} {xs} {ys} {ds} {c} z e low v s m ev ds' c' st =
+    let next : walked (rule_of rule) xs ys ≡ cons? (dot? low v) (walked (rule_of rule) (past dots low xs) (past dots low ys)) =
+    rw ev (walked_step (rule_of rule) e low xs ys s m) in
+    let l = less e low xs ys s m in
+    let g = st.grows in
+    let f = z.few in
+    let sl = st.long in
+    let zl = z.long in
     record {
-      key = record { is = rw s x.0; small = λ t. x.2; fits = f; le = le };
-      value = λ low t. rw (s, x.0, x.1);
-    })
-    (λ k.
-    let s = done l i n k in
-    let x = o.gone k in
-    record {
-      key = record { is = rw s x.0; small = λ t. absurd (omega arith); fits = f; le = le };
-      value = λ low t. rw (s, x.0, ne_eqb beyond_actors low (λ z. omega arith));
-    })
+      few = omega arith;
+      long = omega arith;
+      store = st.store _ ∙ ap (sets ds c) (sym next) ∙ z.store;
+      count = st.count _ ∙ ap (λ (r : List Dot). c + length r) (sym next) ∙ z.count;
+    }
 
--- ---- the walk along one with a place in another: whether it covers what is ahead
-
-pub record Covering (v c : List Dot) (n m : ℕ) (whole : Bool) (k i : ℕ) : Type 0 where
-  pub fv : n ≤ 16
-  pub fc : m ≤ 16
-  pub hk : k ≤ n
-  pub hi : i ≤ m
-  pub ahead_is : cover_of (slice k n v) (slice i m c) ≡ whole
-
-module _ {v c : List Dot} {n m : ℕ} {whole : Bool} {k i : ℕ} (z : Covering v c n m whole k i) where
-  module _ (more : k < n) (fits : n ≤ length v) {h : Head} (f : Front c i m h) {low : ℕ} (s : low < beyond_actors) (e : low ≡ actor_of (get_or v k no_dot))
-      (p : ℕ) (ep : p ≡ pick (eqb h.key low) h.value 0) where
-    step_is : (leb p (get_or v k no_dot).counter && cover_of (slice (k + 1) n v) (slice (after i h.key low) m c)) ≡ whole
-    unfolding cover_of
-    step_is =
-        let a = actor_of (get_or v k no_dot) in
-        let value : p ≡ said dots a (slice i m c) = ep ∙ f.value low s ∙ ap (λ (x : ℕ). said dots x (slice i m c)) e in
-        let next : slice (after i h.key low) m c ≡ past dots a (slice i m c) =
-        rw f.key.is (next_past dots c i m beyond_actors low no_dot s f.key.fits) ∙ ap (λ (x : ℕ). past dots x (slice i m c)) e in
-        rw (value, next) (rw (ahead v k n no_dot more fits) at z.ahead_is)
-
-    pub uncovered : (get_or v k no_dot).counter < p → false ≡ whole
-    uncovered l = rw (lt-leb p (get_or v k no_dot).counter l) at step_is
-
-    pub covered : (i' : ℕ) → i' ≡ after i h.key low → p ≤ (get_or v k no_dot).counter → Covering v c n m whole (k + 1) i'
-    covered i' ei l = rw ei (record {
-      fv = z.fv;
-      fc = z.fc;
-      hk = omega arith;
-      hi = rw f.key.is (next_le dots c i m beyond_actors low no_dot s f.key.fits f.key.le);
-      ahead_is = rw (le-leb p (get_or v k no_dot).counter l) at step_is;
-    })
-
-  pub cover_end : n ≤ k → m ≤ length c → eqb i m ≡ whole
-  unfolding cover_of
-  cover_end h f =
-      let y = rw (done v k n h) at z.ahead_is in
-      let le = z.hi in
-      by_eq i m
-      (λ e. rw (eq-eqb i m e) (rw (done c i m (omega arith)) at y))
-      (λ n. rw (ne_eqb i m n) (rw (slice-cons i m c no_dot (omega arith) f) at y))
+pub zip_end : {rule : Rule} {start whole xs ys ds : List Dot} {c : ℕ} → Zipping rule start whole xs ys ds c → length xs + length ys ≤ 0 → (ds ≡ sets start 0 whole) × (c ≡ length whole)
+zip_end {xs = []} {ys = []} z h = (z.store, sym (add-zero _) ∙ z.count)
+zip_end {xs = x ∷ xs} z h = absurd (omega arith)
+zip_end {xs = []} {ys = y ∷ ys} z h = absurd (omega arith)

@@ -1,19 +1,23 @@
 // Dots in 16 places, of which the first n stand for a clock (all 16 where n is larger). Nothing is asked of them: what isn't a clock has an
-// answer too. The walks along one and along two such lists.
+// answer too. The walks along one and along two such lists. An array comes with its length since a `VClock` keeps them so: fixed memory.
 #![tactic(auto)]
 
-ghost use Rattle.std.specs.Prelude.{◌≡◌, ◌&&◌, ◌+◌, ◌<◌, ◌≤◌, min, eqb, leb, take, drop};
-ghost use Rattle.tables.specs.Table.{every, pick};
+ghost use Rattle.std.specs.Prelude.{◌≡◌, ◌&&◌, ◌+◌, ◌<◌, min, leb, length, take, drop};
+ghost use Rattle.std.specs.List.{list_all};
+ghost use Rattle.tables.specs.Table.{every};
+ghost use Rattle.tables.specs.Zip.{front, said, past};
+ghost use Rattle.dots.specs.Dot.{dots};
 ghost use Rattle.dots.specs.Clock.{count, normal};
 ghost use Rattle.dots.specs.Covering.{cover_of};
 ghost use Rattle.dots.specs.Rising.{rising};
 ghost use Rattle.places.specs.Places.{unused, joined};
-ghost use Rattle.places.specs.Turn.{rule_of, HeadOf, turn_of};
+ghost use Rattle.places.specs.Turn.{rule_of};
 ghost use Rattle.places.specs.Walked.{walked};
 
 use dots::{Actor, Dot};
 
 // What becomes of an actor's two counters: the larger; the smaller; the counter where both are the same; the first where it is beyond the second.
+// A value and not a closure: `join_call` of clocks, on which merge, glb and the resets rest, names the rule.
 #[derive(Clone, Copy)]
 pub enum Rule {
     Larger,
@@ -29,214 +33,132 @@ pub struct Joined {
     pub len: usize,
 }
 
-// The first of the dots ahead, as actor and counter. Where nothing is ahead, the actor is 2^32.
-#[derive(Clone, Copy)]
-struct Head {
-    key: u64,
-    value: u64,
-}
-
-// One turn of the walk along two: the dot of the lower head's actor, and how far each side goes on, 0 or 1.
-#[derive(Clone, Copy)]
-struct Turn {
-    dot: Dot,
-    left: usize,
-    right: usize,
-}
-
 // Whether the first n are a normalised clock, n is 16 at most, and the other places are zero.
 pub fn normal(dots: [Dot; 16], n: usize) -> bool
     ensures { result ≡ (leb n 16 && (normal (take n dots) && every unused (drop n dots))) }
 {
-    if n > 16 {
-        return false;
-    }
-    if ascending(dots, n) {
-        clear_after(dots, n)
-    } else {
-        false
-    }
+    n <= 16 && ascending(&dots[..n]) && clear(&dots[n..])
 }
 
 // The counter of an actor, 0 where it is missing.
 pub fn counter(dots: [Dot; 16], n: usize, a: u32) -> u64
     ensures { result ≡ count (take n dots) a }
 {
-    let len = at_most_16(n);
-    let mut i: usize = 0;
-    while i < len {
-        let d = dots[i];
+    for d in &dots[..n.min(16)] {
         if d.actor.0 == a {
             return d.counter;
         }
-        i += 1;
     }
     0
 }
 
-// Whether the first n of a cover the first m of b: along a's actors, with a place in b.
+// Whether the first n of a cover the first m of b: along a's actors, with what is left of b.
 pub fn covers(a: [Dot; 16], n: usize, b: [Dot; 16], m: usize) -> bool
     ensures { result ≡ cover_of (take n a) (take m b) }
 {
-    let na = at_most_16(n);
-    let nb = at_most_16(m);
-    let mut i: usize = 0;
-    let mut k: usize = 0;
-    while k < na {
-        let d = a[k];
-        let low = wide(d.actor.0);
-        let h = first(b[i % 16], i, nb);
-        if d.counter < held(h, low) {
+    let mut left = &b[..m.min(16)];
+    for d in &a[..n.min(16)] {
+        if d.counter < held(left, d.actor.0) {
             return false;
         }
-        i = step(i, h.key, low);
-        k += 1;
+        left = after(left, d.actor.0);
     }
-    i == nb
+    left.is_empty()
 }
 
 // Both walked together: each actor with what the rule makes of its two counters, zeros dropped.
 pub fn zip(rule: Rule, a: [Dot; 16], n: usize, b: [Dot; 16], m: usize) -> Joined
     ensures { result ≡ joined (walked (rule_of rule) (take n a) (take m b)) }
 {
-    let na = at_most_16(n);
-    let nb = at_most_16(m);
-    let total = na + nb;
+    let mut xs = &a[..n.min(16)];
+    let mut ys = &b[..m.min(16)];
     let mut dots = [Dot {
         actor: Actor(0),
         counter: 0,
     }; 16];
     let mut len: usize = 0;
-    let mut i: usize = 0;
-    let mut j: usize = 0;
-    while i + j < total {
-        let p = first(a[i % 16], i, na);
-        let q = first(b[j % 16], j, nb);
-        let t = meet(rule, p, q);
-        let dot = t.dot;
-        if dot.counter != 0 {
+    while xs.len() + ys.len() > 0 {
+        let actor = lowest(xs, ys);
+        let counter = ruled(rule, held(xs, actor), held(ys, actor));
+        if counter != 0 {
             if len < 16 {
-                dots[len] = dot;
+                dots[len] = Dot {
+                    actor: Actor(actor),
+                    counter,
+                };
             }
             len += 1;
         }
-        i += t.left;
-        j += t.right;
+        xs = after(xs, actor);
+        ys = after(ys, actor);
     }
     Joined { dots, len }
 }
 
-// The head of a list at place i of n, where d stands at place i.
-fn first(d: Dot, i: usize, n: usize) -> Head
-    ensures { HeadOf d i n result }
+// The lower of the first actors of two lists.
+fn lowest(xs: &[Dot], ys: &[Dot]) -> u32
+    requires { 0 < length xs.now + length ys.now }
+    ensures { result ≡ min (front dots 4294967296 xs.now) (front dots 4294967296 ys.now) }
 {
-    if i < n {
-        Head {
-            key: wide(d.actor.0),
-            value: d.counter,
-        }
-    } else {
-        Head {
-            key: 4294967296,
-            value: 0,
-        }
+    match (xs, ys) {
+        ([x, ..], [y, ..]) => x.actor.0.min(y.actor.0),
+        ([x, ..], []) => x.actor.0,
+        ([], [y, ..]) => y.actor.0,
+        ([], []) => unreachable!(),
     }
 }
 
-// The turn at two heads: what the rule makes of the lower actor's two counters, and which sides have that actor.
-fn meet(rule: Rule, p: Head, q: Head) -> Turn
-    ensures { result ≡ turn_of rule p q }
+// The counter of an actor where its dot is the first, else 0.
+fn held(ahead: &[Dot], actor: u32) -> u64
+    ensures { result ≡ said dots actor ahead.now }
 {
-    let low = lower(p.key, q.key);
-    let actor = Actor((low % 4294967296) as u32);
-    let counter = ruled(rule, held(p, low), held(q, low));
-    Turn {
-        dot: Dot { actor, counter },
-        left: step(0, p.key, low),
-        right: step(0, q.key, low),
+    match ahead {
+        [d, ..] if d.actor.0 == actor => d.counter,
+        _ => 0,
+    }
+}
+
+// What is left after an actor's dot, where that is the first.
+fn after(ahead: &[Dot], actor: u32) -> &[Dot]
+    ensures { result.now ≡ past dots actor ahead.now }
+{
+    match ahead {
+        [d, rest @ ..] if d.actor.0 == actor => rest,
+        _ => ahead,
     }
 }
 
 // Whether the actors ascend strictly and no counter is zero.
-fn ascending(dots: [Dot; 16], n: usize) -> bool
-    requires { n ≤ 16 }
-    ensures { result ≡ rising 0 (take n dots) }
+fn ascending(dots: &[Dot]) -> bool
+    ensures { result ≡ rising 0 dots.now }
 {
     let mut low: u64 = 0;
-    let mut i: usize = 0;
-    while i < n {
-        let d = dots[i];
-        let a = wide(d.actor.0);
-        if a < low {
-            return false;
-        }
-        if d.counter == 0 {
+    for d in dots {
+        let a = u64::from(d.actor.0);
+        if a < low || d.counter == 0 {
             return false;
         }
         low = a + 1;
-        i += 1;
     }
     true
 }
 
-// Whether the places that are not in use are zero.
-fn clear_after(dots: [Dot; 16], n: usize) -> bool
-    ensures { result ≡ every unused (drop n dots) }
+// Whether places that are not in use are zero.
+#[tactic(auto, unfolding(crate::specs::Places::unused))]
+fn clear(dots: &[Dot]) -> bool
+    ensures { result ≡ list_all unused dots.now }
 {
-    let mut i = n;
-    while i < 16 {
-        let d = dots[i];
-        if d.actor.0 != 0 {
-            return false;
-        }
-        if d.counter != 0 {
-            return false;
-        }
-        i += 1;
-    }
-    true
+    dots.iter().all(|d| d.actor.0 == 0 && d.counter == 0)
 }
 
+#[tactic(auto, unfolding(crate::specs::Turn::rule_of, dots::specs::Ruled::same, dots::specs::Ruled::beyond))]
 fn ruled(rule: Rule, x: u64, y: u64) -> u64
     ensures { result ≡ rule_of rule x y }
 {
     match rule {
-        Rule::Larger => if x < y { y } else { x },
-        Rule::Smaller => if x < y { x } else { y },
+        Rule::Larger => x.max(y),
+        Rule::Smaller => x.min(y),
         Rule::Same => if x == y { x } else { 0 },
         Rule::Beyond => if x <= y { 0 } else { x },
     }
-}
-
-// The counter that a head has for an actor.
-fn held(h: Head, low: u64) -> u64
-    ensures { result ≡ pick (eqb h.key low) h.value 0 }
-{
-    if h.key == low { h.value } else { 0 }
-}
-
-// The place after an actor.
-fn step(i: usize, key: u64, low: u64) -> usize
-    requires { i < 65536 }
-    ensures { result ≡ i + pick (eqb key low) 1 0 }
-{
-    if key == low { i + 1 } else { i }
-}
-
-fn lower(x: u64, y: u64) -> u64
-    ensures { result ≡ min x y }
-{
-    if x < y { x } else { y }
-}
-
-fn at_most_16(n: usize) -> usize
-    ensures { result ≡ min n 16 }
-{
-    if n < 16 { n } else { 16 }
-}
-
-fn wide(x: u32) -> u64
-    ensures { (result ≡ x) × (result < 4294967296) }
-{
-    x as u64
 }

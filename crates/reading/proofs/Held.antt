@@ -1,20 +1,20 @@
 -- The entry of a member is the one at its seat.
 use Prim.Native.Nat.{ℕ, suc, ◌+◌, ◌≤◌, ◌<◌, compare, Ordering}
 use mathlib.Core.Path.{◌≡◌, refl, sym, ◌∙◌}
-use mathlib.Core.Bool.{Bool, true, false}
+use mathlib.Core.Bool.{Bool, true, false, not}
 use mathlib.Core.Option.{Option, none, some}
 use mathlib.Core.List.{List, [], ◌∷◌, map}
 use native.Mathlib.Omega.{arith}
-use native.Mathlib.Numerals.{add-one}
 use lib.Dec.{eqb}
 use lib.ListN.{length, get_or}
-use borrow.Author.Tests.{eqb-true, eqb-false}
+use borrow.Author.Tests.{eqb-true, eqb-false, ltb-true, ltb-false}
 use Rattle.tables.specs.Order.{nat_order, self}
-use Rattle.tables.specs.Table.{pick, hit, find}
+use Rattle.tables.specs.Table.{hit, find}
 use Rattle.replica.specs.Replica.{Entry}
 use Rattle.layout.specs.Fields.{u32_at}
 use Rattle.layout.specs.Rows.{row_in, row_at}
-use Rattle.reading.specs.Seat.{seat_of}
+use Rattle.std.specs.Prelude.{Some, None, cond, nat_lt}
+use Rattle.std.specs.List.{position, position_or_len}
 
 hit_same : (m k : ℕ) (e : Entry) (o : Option Entry) → k ≡ m → hit (compare m k) e o ≡ some e
 hit_same m k e o q = rw (q, self compare nat_order m)
@@ -28,27 +28,40 @@ hit_other m k e o h = go (compare m k) refl
     go Ordering.gt q = refl
 
 module _ (s : List ℕ) (m : ℕ) where
-  abbrev seat : List ℕ → ℕ
-  seat ps = seat_of m (map (u32_at s) ps)
+  abbrev is_it : ℕ → Bool
+  is_it p = eqb (u32_at s p) m
 
   abbrev entry_at : List ℕ → Option Entry
   entry_at ps = find compare (λ e. e.member) m (map (row_at s) ps)
 
-  pub seat_in : (ps : List ℕ) → seat ps < length ps → entry_at ps ≡ some (row_at s (get_or ps (seat ps) 0))
-  unfolding row_in
-  seat_in [] h = absurd (omega arith)
-  seat_in (p ∷ ps) h = go (eqb (u32_at s p) m) refl (seat_in ps) h
-    where
-      go : (b : Bool) → eqb (u32_at s p) m ≡ b → (seat ps < length ps → entry_at ps ≡ some (row_at s (get_or ps (seat ps) 0)))
-          → pick b 0 (seat ps + 1) < suc (length ps) → entry_at (p ∷ ps) ≡ some (row_at s (get_or (p ∷ ps) (pick b 0 (seat ps + 1)) 0))
-      go true q r h = hit_same m (u32_at s p) (row_at s p) (entry_at ps) (eqb-true (u32_at s p) m q)
-      go false q r h = rw (add-one (seat ps)) (hit_other m (u32_at s p) (row_at s p) (entry_at ps) (eqb-false (u32_at s p) m q) ∙ r (omega arith))
+  abbrev Held : List ℕ → ℕ → Type 0
+  Held ps i = (i < length ps → entry_at ps ≡ some (row_at s (get_or ps i 0))) × (length ps ≤ i → entry_at ps ≡ none)
 
-  pub seat_out : (ps : List ℕ) → length ps ≤ seat ps → entry_at ps ≡ none
+  held_at : (ps : List ℕ) → Held ps (position_or_len is_it ps)
   unfolding row_in
-  seat_out [] h = refl
-  seat_out (p ∷ ps) h = go (eqb (u32_at s p) m) refl (seat_out ps) h
+  held_at [] = (λ h. absurd (omega arith), λ h. refl)
+  held_at (p ∷ ps) = go (is_it p) refl (held_at ps)
     where
-      go : (b : Bool) → eqb (u32_at s p) m ≡ b → (length ps ≤ seat ps → entry_at ps ≡ none) → suc (length ps) ≤ pick b 0 (seat ps + 1) → entry_at (p ∷ ps) ≡ none
-      go true q r h = absurd (omega arith)
-      go false q r h = hit_other m (u32_at s p) (row_at s p) (entry_at ps) (eqb-false (u32_at s p) m q) ∙ r (omega arith)
+      go : (b : Bool) → is_it p ≡ b → Held ps (position_or_len is_it ps) → Held (p ∷ ps) (cond (not b) (1 + position_or_len is_it ps) 0)
+      go true q r = (λ h. hit_same m (u32_at s p) (row_at s p) (entry_at ps) (eqb-true (u32_at s p) m q), λ h. absurd (omega arith))
+      go false q r =
+          let e : 1 + position_or_len is_it ps ≡ suc (position_or_len is_it ps) = omega arith in
+          let o = hit_other m (u32_at s p) (row_at s p) (entry_at ps) (eqb-false (u32_at s p) m q) in
+          rw e (λ h. o ∙ r.0 (omega arith), λ h. o ∙ r.1 (omega arith))
+
+  pub seat_in : (ps : List ℕ) (i : ℕ) → position is_it ps ≡ Some i → (i < length ps) × (entry_at ps ≡ some (row_at s (get_or ps i 0)))
+  seat_in ps i e = go (nat_lt (position_or_len is_it ps) (length ps)) refl e
+    where
+      go : (b : Bool) → nat_lt (position_or_len is_it ps) (length ps) ≡ b → cond b (Some (position_or_len is_it ps)) None ≡ Some i → (i < length ps) × (entry_at ps ≡ some (row_at s (get_or ps i 0)))
+      go true q r =
+          let f : position_or_len is_it ps ≡ i = cc in
+          let l : position_or_len is_it ps < length ps = ltb-true (position_or_len is_it ps) (length ps) q in
+          rw (← f) (l, (held_at ps).0 l)
+      go false q r = cc
+
+  pub seat_out : (ps : List ℕ) → position is_it ps ≡ None → entry_at ps ≡ none
+  seat_out ps e = go (nat_lt (position_or_len is_it ps) (length ps)) refl e
+    where
+      go : (b : Bool) → nat_lt (position_or_len is_it ps) (length ps) ≡ b → cond b (Some (position_or_len is_it ps)) None ≡ None → entry_at ps ≡ none
+      go true q r = cc
+      go false q r = (held_at ps).1 (ltb-false (position_or_len is_it ps) (length ps) q)

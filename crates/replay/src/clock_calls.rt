@@ -1,148 +1,44 @@
 // The calls of dots, clocks and contexts, which C doesn't have.
-use crate::room::{left, lent, zeros};
+use crate::room::{LENT, ZEROS, left};
 use crate::text::{bytes, field, number, number_up_to, number32};
-use clocks::{ClockAnswer, OpValidation, VClock};
+use clocks::VClock;
 use contexts::ReadCtx;
-use dots::{Actor, Comparison, Dot, DotAnswer, OrdDot};
+use dots::{Actor, Dot, OpRefused};
 use fields::{clock_at, put_clock, put_u32, put_u64, u32_at, u64_at};
+use std::cmp::Ordering;
 
+// What a line says of a call's arguments: two clocks, or two dots, in bytes, and a dot or its actor.
 #[derive(Clone, Copy)]
-pub(crate) enum DotCall {
-    Inc,
-    Compare,
-    OrdCompare,
+pub(crate) struct Arguments<'a> {
+    first: &'a [u8],
+    second: &'a [u8],
+    pub(crate) dot: Dot,
 }
 
-// Calls of one clock.
-#[derive(Clone, Copy)]
-pub(crate) enum OneCall {
-    Get,
-    IsEmpty,
-    Inc,
-    Apply,
-    ValidateOp,
-    Display,
-}
-
-// Calls of two clocks.
-#[derive(Clone, Copy)]
-pub(crate) enum TwoCall {
-    Merge,
-    ResetRemove,
-    CloneWithout,
-    Intersection,
-    Glb,
-    Compare,
-    Concurrent,
-    DeriveAddCtx,
-}
-
-#[derive(Clone, Copy)]
-pub(crate) enum ClockCall {
-    Dots(DotCall),
-    One(OneCall),
-    Two(TwoCall),
-}
-
-// A refusal number, and the length of what was written, or what a comparison or a yes or no says.
-#[derive(Clone, Copy)]
-struct Said {
-    no: u32,
-    low: usize,
-}
-
-fn counter(no: u32, n: u64, out: &mut [u8]) -> Said {
-    if no == 0 {
-        put_u64(out, 0, n);
-        Said { no, low: 8 }
-    } else {
-        Said { no, low: 0 }
+impl Arguments<'_> {
+    pub(crate) fn clock(&self) -> VClock {
+        clock_at(self.first, 0)
     }
-}
 
-fn dot(a: DotAnswer, out: &mut [u8]) -> Said {
-    if a.no == 0 {
-        put_u32(out, 0, a.dot.actor.0);
-        put_u64(out, 4, a.dot.counter);
-        Said { no: 0, low: 12 }
-    } else {
-        Said { no: a.no, low: 0 }
+    pub(crate) fn other_clock(&self) -> VClock {
+        clock_at(self.second, 0)
     }
-}
 
-fn clock(a: ClockAnswer, out: &mut [u8]) -> Said {
-    if a.no == 0 {
-        let c = a.clock;
-        Said {
-            no: 0,
-            low: put_clock(out, 0, c),
+    pub(crate) fn first_dot(&self) -> Dot {
+        dot_at(self.first)
+    }
+
+    pub(crate) fn second_dot(&self) -> Dot {
+        dot_at(self.second)
+    }
+
+    // The context of a read that gave the two clocks.
+    pub(crate) fn context(&self) -> ReadCtx {
+        ReadCtx {
+            add_clock: self.clock(),
+            rm_clock: self.other_clock(),
+            answer: false,
         }
-    } else {
-        Said { no: a.no, low: 0 }
-    }
-}
-
-fn truth(no: u32, holds: bool) -> Said {
-    if holds {
-        Said { no, low: 1 }
-    } else {
-        Said { no, low: 0 }
-    }
-}
-
-fn order(no: u32, c: Comparison) -> Said {
-    if no == 0 {
-        match c {
-            Comparison::Less => Said { no, low: 0 },
-            Comparison::Equal => Said { no, low: 1 },
-            Comparison::Greater => Said { no, low: 2 },
-            Comparison::None => Said { no, low: 3 },
-        }
-    } else {
-        Said { no, low: 0 }
-    }
-}
-
-fn gap(v: OpValidation, out: &mut [u8]) -> Said {
-    match v {
-        OpValidation::Valid => Said { no: 0, low: 0 },
-        OpValidation::Refused => Said { no: 3, low: 0 },
-        OpValidation::Gap(g) => {
-            put_u64(out, 0, g.start);
-            put_u64(out, 8, g.end);
-            Said { no: 11, low: 0 }
-        }
-    }
-}
-
-fn added(a: VClock, b: VClock, actor: Actor, out: &mut [u8]) -> Said {
-    let ctx = ReadCtx {
-        add_clock: a,
-        rm_clock: b,
-        answer: false,
-    };
-    let r = ctx.derive_add_ctx(actor);
-    let next = r.ctx;
-    if r.no == 0 {
-        put_u32(out, 0, next.dot.actor.0);
-        put_u64(out, 4, next.dot.counter);
-        let c = next.clock;
-        let n = put_clock(out, 12, c);
-        if n < 4096 {
-            Said { no: 0, low: 12 + n }
-        } else {
-            Said { no: 0, low: 0 }
-        }
-    } else {
-        Said { no: r.no, low: 0 }
-    }
-}
-
-fn shown(a: VClock, out: &mut [u8]) -> Said {
-    let s = display::display(a, out);
-    Said {
-        no: s.no,
-        low: s.len,
     }
 }
 
@@ -151,82 +47,67 @@ fn dot_at(s: &[u8]) -> Dot {
     Dot::new(Actor(u32_at(s, 0)), u64_at(s, 4))
 }
 
-fn ordered(a: Dot, b: Dot) -> Said {
-    order(0, OrdDot::from_dot(a).compare(OrdDot::from_dot(b)))
+// The length of what a call wrote, or what a comparison or a yes or no says; or what it refuses with.
+pub(crate) type Said = Result<usize, OpRefused>;
+
+pub(crate) fn put_counter(out: &mut [u8], n: u64) -> usize {
+    put_u64(out, 0, n);
+    8
 }
 
-fn of_dots(call: DotCall, a: Dot, b: Dot, d: Dot, out: &mut [u8]) -> Said {
-    match call {
-        DotCall::Inc => dot(d.inc(), out),
-        DotCall::Compare => order(0, a.compare(b)),
-        DotCall::OrdCompare => ordered(a, b),
+pub(crate) fn put_dot(out: &mut [u8], d: Dot) -> usize {
+    put_u32(out, 0, d.actor.0);
+    put_u64(out, 4, d.counter);
+    12
+}
+
+// The dot, then the clock.
+pub(crate) fn put_context(out: &mut [u8], d: Dot, c: VClock) -> usize {
+    let n = put_dot(out, d);
+    put_clock(out, n, c).saturating_add(n)
+}
+
+// The number that stands for an order.
+pub(crate) fn order(o: Option<Ordering>) -> usize {
+    match o {
+        Some(Ordering::Less) => 0,
+        Some(Ordering::Equal) => 1,
+        Some(Ordering::Greater) => 2,
+        None => 3,
     }
 }
 
-fn of_one(call: OneCall, a: VClock, d: Dot, out: &mut [u8]) -> Said {
-    let actor = d.actor;
-    match call {
-        OneCall::Get => {
-            let r = a.get(actor);
-            counter(r.no, r.counter, out)
-        }
-        OneCall::IsEmpty => {
-            let r = a.is_empty();
-            truth(r.no, r.holds)
-        }
-        OneCall::Inc => dot(a.inc(actor), out),
-        OneCall::Apply => clock(a.apply(d), out),
-        OneCall::ValidateOp => gap(a.validate_op(d), out),
-        OneCall::Display => shown(a, out),
+// A gap is written, where it is what an operation is refused with.
+pub(crate) fn judged(out: &mut [u8], verdict: Result<(), OpRefused>) -> Said {
+    if let Err(OpRefused::Gap(gap)) = verdict {
+        put_u64(out, 0, gap.start);
+        put_u64(out, 8, gap.end);
     }
-}
-
-fn of_two(call: TwoCall, a: VClock, b: VClock, actor: Actor, out: &mut [u8]) -> Said {
-    match call {
-        TwoCall::Merge => clock(a.merge(b), out),
-        TwoCall::ResetRemove => clock(a.reset_remove(b), out),
-        TwoCall::CloneWithout => clock(a.clone_without(b), out),
-        TwoCall::Intersection => clock(a.intersection(b), out),
-        TwoCall::Glb => clock(a.glb(b), out),
-        TwoCall::Compare => {
-            let r = a.compare(b);
-            let o = r.order;
-            order(r.no, o)
-        }
-        TwoCall::Concurrent => {
-            let r = a.concurrent(b);
-            truth(r.no, r.holds)
-        }
-        TwoCall::DeriveAddCtx => added(a, b, actor, out),
-    }
-}
-
-// Makes a call; first and second are two clocks, or two dots, in bytes.
-fn made(call: ClockCall, first: &[u8], second: &[u8], d: Dot, out: &mut [u8]) -> Said {
-    match call {
-        ClockCall::Dots(c) => of_dots(c, dot_at(first), dot_at(second), d, out),
-        ClockCall::One(c) => of_one(c, clock_at(first, 0), d, out),
-        ClockCall::Two(c) => of_two(c, clock_at(first, 0), clock_at(second, 0), d.actor, out),
-    }
+    verdict.map(|()| 0)
 }
 
 // Makes a line's call: `name first second actor counter - room refusal length output`.
-pub(crate) fn agrees(line: &[u8], call: ClockCall) -> bool {
-    let mut first = zeros();
+pub(crate) fn agrees<F: Fn(&Arguments<'_>, &mut [u8]) -> Said>(line: &[u8], call: &F) -> bool
+    requires { F.IsAlwaysCallable call.now }
+{
+    let mut first = ZEROS;
     let n = bytes(field(line, 1), &mut first);
-    let mut second = zeros();
+    let mut second = ZEROS;
     let m = bytes(field(line, 2), &mut second);
-    let d = Dot::new(Actor(number32(field(line, 3))), number(field(line, 4)));
-    let mut out = lent();
+    let arguments = Arguments {
+        first: &first[..n],
+        second: &second[..m],
+        dot: Dot::new(Actor(number32(field(line, 3))), number(field(line, 4))),
+    };
+    let mut out = LENT;
     let room = number_up_to(field(line, 6), 8192);
-    let said = made(call, &first[..n], &second[..m], d, &mut out[..room]);
-    let mut expected = zeros();
+    let (refusal, length) = match call(&arguments, &mut out[..room]) {
+        Ok(length) => (0, length),
+        Err(refused) => (refused.number(), 0),
+    };
+    let mut expected = ZEROS;
     let e = bytes(field(line, 9), &mut expected);
-    if said.no != number32(field(line, 7)) {
-        return false;
-    }
-    if said.low != number_up_to(field(line, 8), 4096) {
-        return false;
-    }
-    left(&out, &expected[..e])
+    refusal == number32(field(line, 7))
+        && length == number_up_to(field(line, 8), 4096)
+        && left(&out, &expected[..e])
 }

@@ -7,219 +7,253 @@ mod room;
 mod set_calls;
 mod text;
 
-ghost use Rattle.std.specs.Prelude.{◌≤◌};
-
-use crate::clock_calls::{ClockCall, DotCall, OneCall, TwoCall};
-use crate::set_calls::SetCall;
+use crate::clock_calls::{Said, judged, order, put_context, put_counter, put_dot};
+use clocks::VClock;
+use dots::{OrdDot, Refused};
+use fields::put_clock;
+use std::fmt::{self, Display};
 use std::io::{Read, Seek};
 use std::rt::Files;
 use std::{fs, io};
 
 // How many lines of a call there are, and how many of them agree.
-#[derive(Clone, Copy)]
+#[derive(Clone, Copy, Default)]
 struct Tally {
     agreed: u64,
     lines: u64,
 }
 
-// Which call a line is replayed as.
-#[derive(Clone, Copy)]
-enum Call {
-    Set(SetCall),
-    Clock(ClockCall),
-}
-
-fn agrees(line: &[u8], call: Call) -> bool {
-    match call {
-        Call::Set(c) => set_calls::agrees(line, c),
-        Call::Clock(c) => clock_calls::agrees(line, c),
+impl Tally {
+    // The lines of both.
+    fn and(self, other: Tally) -> Tally {
+        Tally {
+            agreed: self.agreed.wrapping_add(other.agreed),
+            lines: self.lines.wrapping_add(other.lines),
+        }
     }
 }
 
-// One more line, if it is of this call.
-fn counted(t: Tally, line: &[u8], name: &str, call: Call) -> Tally {
-    if check::same(text::field(line, 0), name.as_bytes()) {
-        let one = if agrees(line, call) { 1 } else { 0 };
-        Tally {
-            agreed: t.agreed.wrapping_add(one),
-            lines: t.lines.wrapping_add(1),
-        }
-    } else {
-        t
+impl Display for Tally {
+    fn fmt<W: fmt::Write>(&self, f: &mut fmt::Formatter<W>) -> fmt::Result {
+        write!(f, "{} of {} agree", self.agreed, self.lines)
     }
 }
 
 // The lines of one call among some.
-fn in_lines(start: Tally, lines: &[u8], name: &str, call: Call) -> Tally {
-    let mut t = start;
-    let mut at = 0;
-    while at < lines.len() {
-        let end = text::ends(lines, at, b'\n');
-        t = counted(t, &lines[at..end], name, call);
-        if end == lines.len() {
-            return t;
+fn in_lines<F: Fn(&[u8]) -> bool>(lines: &[u8], name: &str, agrees: &F) -> Tally
+    requires { F.IsAlwaysCallable agrees.now }
+{
+    let mut t = Tally::default();
+    for line in lines.split(|b| *b == b'\n') {
+        if text::field(line, 0) == name.as_bytes() {
+            t = t.and(Tally {
+                agreed: u64::from(agrees(line)),
+                lines: 1,
+            });
         }
-        at = end + 1;
     }
     t
 }
 
-// A tally, and how many bytes of the file it has seen last.
-#[derive(Clone, Copy)]
-struct Part {
-    t: Tally,
-    n: u32,
-}
-
-// The lines of one call in a part of a file.
-fn in_part<F: Read + Seek>(start: Tally, file: &mut F, at: u32, name: &str, call: Call) -> Part
-    ensures { result.n ≤ 65536 }
+// The lines of one call in a file, which is read part by part: each part ends with a line, so they differ in length.
+fn in_file<R: Files, F: Fn(&[u8]) -> bool>(rt: &R, path: &str, name: &str, agrees: &F) -> Tally
+    requires { F.IsAlwaysCallable agrees.now }
 {
-    let mut space = [0u8; 65536];
-    let n = text::lines_from(file, at, &mut space);
-    let t = in_lines(start, &space[..n], name, call);
-    Part {
-        t,
-        n: text::least(n, 65536) as u32,
-    }
-}
-
-// The lines of one call in a file, which is read part by part.
-fn in_file<R: Files>(rt: &R, path: &str, name: &str, call: Call) -> Tally {
-    let mut t = Tally {
-        agreed: 0,
-        lines: 0,
-    };
+    let mut t = Tally::default();
     let Ok(mut file) = fs::open(rt, path) else {
         return t;
     };
+    let mut part = [0u8; 65536];
     let mut at: u32 = 0;
     while at < 1000000000 {
-        let part = in_part(t, &mut file, at, name, call);
-        t = part.t;
-        if part.n == 0 {
+        let n = text::lines_from(&mut file, at, &mut part);
+        t = t.and(in_lines(&part[..n], name, agrees));
+        if n == 0 {
             break;
         }
-        at += part.n;
+        at += n as u32;
     }
     t
 }
 
 // Replays one call's lines, prints its count, and adds it to the sum.
-fn replay<R: Files + Print>(
+fn replay<R: Files + Print, F: Fn(&[u8]) -> bool>(
     rt: &R,
-    sum: Tally,
+    sum: &mut Tally,
     path: &str,
     name: &str,
-    call: Call,
-) -> io::Result<Tally> {
-    let t = in_file(rt, path, name, call);
-    say(rt, name, t)?;
-    Ok(Tally {
-        agreed: sum.agreed.wrapping_add(t.agreed),
-        lines: sum.lines.wrapping_add(t.lines),
-    })
-}
-
-fn say(rt: &impl Print, name: &str, t: Tally) -> io::Result<()> {
-    println!(rt; "{name}: {} of {} agree", t.agreed, t.lines)
+    agrees: &F,
+) -> io::Result<()>
+    requires { F.IsAlwaysCallable agrees.now }
+{
+    let t = in_file(rt, path, name, agrees);
+    *sum = sum.and(t);
+    println!(rt; "{name}: {t}")
 }
 
 // A call over images.
-fn image_call<R: Files + Print>(
+fn image_call<R: Files + Print, F: Fn(&set_calls::Arguments<'_>, &mut [u8]) -> u64>(
     rt: &R,
-    sum: Tally,
+    sum: &mut Tally,
     name: &str,
-    call: SetCall,
-) -> io::Result<Tally> {
-    replay(rt, sum, "answers.txt", name, Call::Set(call))
+    call: F,
+) -> io::Result<()>
+    requires { F.IsAlwaysCallable call }
+{
+    replay(
+        rt,
+        sum,
+        "answers.txt",
+        name,
+        &|line: &[u8]| set_calls::agrees(line, &call),
+    )
 }
 
 // A call of dots or clocks.
-fn clock_call<R: Files + Print>(
+fn clock_call<R: Files + Print, F: Fn(&clock_calls::Arguments<'_>, &mut [u8]) -> Said>(
     rt: &R,
-    sum: Tally,
+    sum: &mut Tally,
     name: &str,
-    call: ClockCall,
-) -> io::Result<Tally> {
-    replay(rt, sum, "clock-answers.txt", name, Call::Clock(call))
+    call: F,
+) -> io::Result<()>
+    requires { F.IsAlwaysCallable call }
+{
+    replay(
+        rt,
+        sum,
+        "clock-answers.txt",
+        name,
+        &|line: &[u8]| clock_calls::agrees(line, &call),
+    )
 }
 
-fn dot_call<R: Files + Print>(rt: &R, sum: Tally, name: &str, call: DotCall) -> io::Result<Tally> {
-    clock_call(rt, sum, name, ClockCall::Dots(call))
-}
-
-fn one_call<R: Files + Print>(rt: &R, sum: Tally, name: &str, call: OneCall) -> io::Result<Tally> {
-    clock_call(rt, sum, name, ClockCall::One(call))
-}
-
-fn two_call<R: Files + Print>(rt: &R, sum: Tally, name: &str, call: TwoCall) -> io::Result<Tally> {
-    clock_call(rt, sum, name, ClockCall::Two(call))
+// A call that makes one clock of two.
+fn clock_of_two<R: Files + Print, F: Fn(VClock, VClock) -> Result<VClock, Refused>>(
+    rt: &R,
+    sum: &mut Tally,
+    name: &str,
+    call: F,
+) -> io::Result<()>
+    requires { F.IsAlwaysCallable call }
+{
+    clock_call(rt, sum, name, |a, out| {
+        Ok(put_clock(out, 0, call(a.clock(), a.other_clock())?))
+    })
 }
 
 // The calls that write an image.
-fn writes<R: Files + Print>(rt: &R, start: Tally) -> io::Result<Tally> {
-    let mut sum = start;
-    sum = image_call(rt, sum, "empty", SetCall::Empty)?;
-    sum = image_call(rt, sum, "add", SetCall::Add)?;
-    sum = image_call(rt, sum, "remove", SetCall::Remove)?;
-    sum = image_call(rt, sum, "merge", SetCall::Merge)?;
-    image_call(rt, sum, "reset", SetCall::Reset)
+fn writes<R: Files + Print>(rt: &R, sum: &mut Tally) -> io::Result<()> {
+    image_call(rt, sum, "empty", |_a, out| exports::gatelichen_empty(out))?;
+    image_call(rt, sum, "add", |a, out| {
+        exports::gatelichen_add(a.image, a.number, a.counter, a.members, out)
+    })?;
+    image_call(rt, sum, "remove", |a, out| {
+        exports::gatelichen_remove(a.image, a.other, a.members, out)
+    })?;
+    image_call(rt, sum, "merge", |a, out| {
+        exports::gatelichen_merge(a.image, a.other, out)
+    })?;
+    image_call(rt, sum, "reset", |a, out| {
+        exports::gatelichen_reset(a.image, a.other, out)
+    })
 }
 
 // The calls that ask of an image, and those that judge.
-fn reads<R: Files + Print>(rt: &R, start: Tally) -> io::Result<Tally> {
-    let mut sum = start;
-    sum = image_call(rt, sum, "check", SetCall::Check)?;
-    sum = image_call(rt, sum, "contains", SetCall::Contains)?;
-    sum = image_call(rt, sum, "read", SetCall::Read)?;
-    sum = image_call(rt, sum, "clock", SetCall::Clock)?;
-    sum = image_call(rt, sum, "validate_add", SetCall::ValidateAdd)?;
-    sum = image_call(rt, sum, "validate_remove", SetCall::ValidateRemove)?;
-    image_call(rt, sum, "validate_merge", SetCall::ValidateMerge)
+fn reads<R: Files + Print>(rt: &R, sum: &mut Tally) -> io::Result<()> {
+    image_call(
+        rt,
+        sum,
+        "check",
+        |a, _out| exports::gatelichen_check(a.image),
+    )?;
+    image_call(rt, sum, "contains", |a, out| {
+        exports::gatelichen_contains(a.image, a.number, out)
+    })?;
+    image_call(
+        rt,
+        sum,
+        "read",
+        |a, out| exports::gatelichen_read(a.image, out),
+    )?;
+    image_call(
+        rt,
+        sum,
+        "clock",
+        |a, out| exports::gatelichen_clock(a.image, out),
+    )?;
+    image_call(rt, sum, "validate_add", |a, out| {
+        exports::gatelichen_validate_add(a.image, a.number, a.counter, a.members, out)
+    })?;
+    image_call(rt, sum, "validate_remove", |a, _out| {
+        exports::gatelichen_validate_remove(a.image, a.other, a.members)
+    })?;
+    image_call(rt, sum, "validate_merge", |a, out| {
+        exports::gatelichen_validate_merge(a.image, a.other, out)
+    })
 }
 
 // The calls of dots.
-fn dots<R: Files + Print>(rt: &R, start: Tally) -> io::Result<Tally> {
-    let mut sum = start;
-    sum = dot_call(rt, sum, "dot_inc", DotCall::Inc)?;
-    sum = dot_call(rt, sum, "dot_compare", DotCall::Compare)?;
-    dot_call(rt, sum, "ord_dot_compare", DotCall::OrdCompare)
+fn dots<R: Files + Print>(rt: &R, sum: &mut Tally) -> io::Result<()> {
+    clock_call(rt, sum, "dot_inc", |a, out| Ok(put_dot(out, a.dot.inc()?)))?;
+    clock_call(rt, sum, "dot_compare", |a, _out| {
+        Ok(order(a.first_dot().compare(a.second_dot())))
+    })?;
+    clock_call(rt, sum, "ord_dot_compare", |a, _out| {
+        let first = OrdDot::from(a.first_dot());
+        Ok(order(Some(first.compare(OrdDot::from(a.second_dot())))))
+    })
 }
 
 // The calls of one clock.
-fn clocks<R: Files + Print>(rt: &R, start: Tally) -> io::Result<Tally> {
-    let mut sum = start;
-    sum = one_call(rt, sum, "clock_get", OneCall::Get)?;
-    sum = one_call(rt, sum, "clock_is_empty", OneCall::IsEmpty)?;
-    sum = one_call(rt, sum, "clock_inc", OneCall::Inc)?;
-    sum = one_call(rt, sum, "clock_apply", OneCall::Apply)?;
-    sum = one_call(rt, sum, "clock_validate_op", OneCall::ValidateOp)?;
-    one_call(rt, sum, "clock_display", OneCall::Display)
+fn clocks<R: Files + Print>(rt: &R, sum: &mut Tally) -> io::Result<()> {
+    clock_call(rt, sum, "clock_get", |a, out| {
+        Ok(put_counter(out, a.clock().get(a.dot.actor)?))
+    })?;
+    clock_call(rt, sum, "clock_is_empty", |a, _out| {
+        Ok(usize::from(a.clock().is_empty()?))
+    })?;
+    clock_call(rt, sum, "clock_inc", |a, out| {
+        Ok(put_dot(out, a.clock().inc(a.dot.actor)?))
+    })?;
+    clock_call(rt, sum, "clock_apply", |a, out| {
+        Ok(put_clock(out, 0, a.clock().apply(a.dot)?))
+    })?;
+    clock_call(rt, sum, "clock_validate_op", |a, out| {
+        judged(out, a.clock().validate_op(a.dot))
+    })?;
+    clock_call(
+        rt,
+        sum,
+        "clock_display",
+        |a, out| Ok(display::display(a.clock(), out)?),
+    )
 }
 
 // The calls of two clocks.
-fn pairs<R: Files + Print>(rt: &R, start: Tally) -> io::Result<Tally> {
-    let mut sum = start;
-    sum = two_call(rt, sum, "clock_merge", TwoCall::Merge)?;
-    sum = two_call(rt, sum, "clock_reset_remove", TwoCall::ResetRemove)?;
-    sum = two_call(rt, sum, "clock_clone_without", TwoCall::CloneWithout)?;
-    sum = two_call(rt, sum, "clock_intersection", TwoCall::Intersection)?;
-    sum = two_call(rt, sum, "clock_glb", TwoCall::Glb)?;
-    sum = two_call(rt, sum, "clock_compare", TwoCall::Compare)?;
-    sum = two_call(rt, sum, "clock_concurrent", TwoCall::Concurrent)?;
-    two_call(rt, sum, "derive_add_ctx", TwoCall::DeriveAddCtx)
+fn pairs<R: Files + Print>(rt: &R, sum: &mut Tally) -> io::Result<()> {
+    clock_of_two(rt, sum, "clock_merge", VClock::merge)?;
+    clock_of_two(rt, sum, "clock_reset_remove", VClock::reset_remove)?;
+    clock_of_two(rt, sum, "clock_clone_without", VClock::clone_without)?;
+    clock_of_two(rt, sum, "clock_intersection", VClock::intersection)?;
+    clock_of_two(rt, sum, "clock_glb", VClock::glb)?;
+    clock_call(rt, sum, "clock_compare", |a, _out| {
+        Ok(order(a.clock().compare(a.other_clock())?))
+    })?;
+    clock_call(rt, sum, "clock_concurrent", |a, _out| {
+        Ok(usize::from(a.clock().concurrent(a.other_clock())?))
+    })?;
+    clock_call(rt, sum, "derive_add_ctx", |a, out| {
+        let next = a.context().derive_add_ctx(a.dot.actor)?;
+        Ok(put_context(out, next.dot, next.clock))
+    })
 }
 
 fn main(rt: HostRuntime) -> io::Result<()> {
-    let none = Tally {
-        agreed: 0,
-        lines: 0,
-    };
-    let mut sum = writes(&rt, none)?;
-    sum = reads(&rt, sum)?;
-    sum = dots(&rt, sum)?;
-    sum = clocks(&rt, sum)?;
-    sum = pairs(&rt, sum)?;
-    say(&rt, "all", sum)
+    let mut sum = Tally::default();
+    writes(&rt, &mut sum)?;
+    reads(&rt, &mut sum)?;
+    dots(&rt, &mut sum)?;
+    clocks(&rt, &mut sum)?;
+    pairs(&rt, &mut sum)?;
+    println!(rt; "all: {sum}")
 }

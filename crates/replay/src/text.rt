@@ -8,83 +8,44 @@ use std::io::{Read, Seek, SeekFrom};
 pub(crate) fn lines_from<F: Read + Seek>(file: &mut F, at: u32, buf: &mut [u8]) -> usize
     ensures { IsPrefixLen result buf.new }
 {
-    if file.seek(SeekFrom::Start(at as u64)).is_err() {
+    if file.seek(SeekFrom::Start(u64::from(at))).is_err() {
         return 0;
     }
     match file.read(buf) {
-        Ok(got) => whole(buf, got),
+        Ok(got) => whole(&buf[..got]),
         Err(_) => 0,
     }
 }
 
-// The place after the last line end among the first bytes.
-fn whole(s: &[u8], first: usize) -> usize
-    requires { first ≤ length s.now }
-    ensures { IsPrefixLen result s.now }
-{
-    let mut i = first;
-    while 0 < i {
-        if s[i - 1] == b'\n' {
-            return i;
-        }
-        i -= 1;
-    }
-    0
-}
-
-// Where a mark next stands, from a place on; the length where it doesn't.
-pub(crate) fn ends(s: &[u8], at: usize, mark: u8) -> usize
-    requires { at ≤ length s.now }
-    ensures { (at ≤ result) × (result ≤ length s.now) }
-{
-    let mut i = at;
-    while i < s.len() {
-        if s[i] == mark {
-            return i;
-        }
-        i += 1;
-    }
-    i
-}
-
-// The place after another, or the end.
-fn after(s: &[u8], at: usize) -> usize
+// The place after the last line end.
+fn whole(s: &[u8]) -> usize
     ensures { result ≤ length s.now }
 {
-    if at < s.len() { at + 1 } else { s.len() }
+    let rest = s.iter().rev().position(|b| *b == b'\n');
+    rest.map_or(0, |rest| s.len() - rest)
 }
 
 // The field of a line that so many others stand before; empty where there are fewer.
 pub(crate) fn field(line: &[u8], before: usize) -> &[u8] {
-    let mut start = 0;
-    let mut i = 0;
-    while i < before {
-        start = after(line, ends(line, start, b' '));
-        i += 1;
-    }
-    let end = ends(line, start, b' ');
-    &line[start..end]
+    line.split(|b| *b == b' ').nth(before).unwrap_or(&[])
 }
 
 fn digit(b: u8) -> u8
     ensures { result < 16 }
 {
     match b {
-        b'0'..=b'9' => b - 48,
-        b'a'..=b'f' => b - 87,
+        b'0'..=b'9' => b - b'0',
+        b'a'..=b'f' => b - b'a' + 10,
         _ => 0,
     }
 }
 
 // The number that hex digits say, of 64 bits.
 pub(crate) fn number(hex: &[u8]) -> u64 {
-    let mut n: u64 = 0;
-    let mut i = 0;
-    while i < hex.len() {
-        n = (n % 1152921504606846976) * 16 + (digit(hex[i]) as u64);
-        i += 1;
-    }
-    n
+    hex.iter().fold(
+        0,
+        |n: u64, b| n % 1152921504606846976 * 16 + u64::from(digit(*b)),
+    )
 }
 
 // The same of 32 bits.
@@ -96,64 +57,34 @@ pub(crate) fn number32(hex: &[u8]) -> u32 {
 pub(crate) fn number_up_to(hex: &[u8], most: usize) -> usize
     ensures { result ≤ most }
 {
-    least(number(hex) as usize, most)
-}
-
-pub(crate) fn least(a: usize, b: usize) -> usize
-    ensures { (result ≤ a) × (result ≤ b) }
-{
-    if a < b { a } else { b }
-}
-
-fn pair(high: u8, low: u8) -> u8 {
-    digit(high) * 16 + digit(low)
+    most.min(number(hex) as usize)
 }
 
 // Writes the bytes that hex digits say, as far as the output goes, and answers how many they are.
 pub(crate) fn bytes(hex: &[u8], out: &mut [u8]) -> usize
     ensures { IsPrefixLen result out.new }
 {
-    let most = least(hex.len() / 2, out.len());
-    let mut n = 0;
-    while n < most {
-        out[n] = pair(hex[2 * n], hex[2 * n + 1]);
-        n += 1;
+    let (pairs, _) = hex.as_chunks::<2>();
+    for (byte, [high, low]) in out.iter_mut().zip(pairs) {
+        *byte = digit(*high) * 16 + digit(*low);
     }
-    n
+    out.len().min(pairs.len())
 }
 
 // Writes the 32-bit numbers that 8 hex digits each say.
 pub(crate) fn members(hex: &[u8], out: &mut [u32]) -> usize
     ensures { IsPrefixLen result out.new }
 {
-    let most = least(hex.len() / 8, out.len());
-    let mut n = 0;
-    while n < most {
-        let start = 8 * n;
-        let end = start + 8;
-        out[n] = number32(&hex[start..end]);
-        n += 1;
+    for (member, digits) in out.iter_mut().zip(hex.chunks_exact(8)) {
+        *member = number32(digits);
     }
-    n
-}
-
-// Whether each byte from a place on is the mark.
-pub(crate) fn all(s: &[u8], from: usize, mark: u8) -> bool {
-    let mut i = from;
-    while i < s.len() {
-        if s[i] != mark {
-            return false;
-        }
-        i += 1;
-    }
-    true
+    out.len().min(hex.len() / 8)
 }
 
 // Whether the first bytes are these, and each later one is the mark.
 pub(crate) fn holds(s: &[u8], first: &[u8], mark: u8) -> bool {
-    let n = first.len();
-    if s.len() < n {
-        return false;
+    match s.strip_prefix(first) {
+        Some(rest) => rest.iter().all(|b| *b == mark),
+        None => false,
     }
-    check::same(&s[..n], first) && all(s, n, mark)
 }

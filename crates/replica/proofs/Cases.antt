@@ -1,11 +1,11 @@
 -- Document 01's marked cases 1 to 13, one list under one statement, by computing.
-use Rattle.std.specs.Prelude.{◌≡◌, refl, List, [], ◌∷◌, map, Bool, false, ℕ, zero, suc}
+use Rattle.std.specs.Prelude.{◌≡◌, refl, List, [], ◌∷◌, map, Bool, false, ℕ, zero, suc, Some, None}
+use Rattle.std.specs.declared.cmp.Ordering.TheVariants.{Greater}
 use Rattle.std.proofs.Math.Option.{Option, some}
 use Rattle.tables.specs.Zip.{zip}
 use Rattle.tables.specs.Refusal.{first_of}
 use Rattle.dots.specs.declared.DotRange.{DotRange}
 use Rattle.dots.specs.Dot.{dot}
-use Rattle.dots.specs.declared.Comparison.TheVariants.{Greater, None}
 use Rattle.dots.specs.Calls.{Standing, standing, means}
 use Rattle.dots.specs.Clock.{Clock, covers, merged, applied, reset_by, intersection, gap}
 use Rattle.replica.specs.Replica.{Entry, Wait, Replica, holds, seen}
@@ -74,7 +74,7 @@ against c d = standing (covers c d) (covers d c)
 abbrev pub cases : List Case
 cases =
     -- "{1:1} against {}: Greater."
-    record { number = 1; given = Compared (against (dot 1 1 ∷ []) []) ∷ []; expected = Compared (means Greater) ∷ [] }
+    record { number = 1; given = Compared (against (dot 1 1 ∷ []) []) ∷ []; expected = Compared (means (Some Greater)) ∷ [] }
     -- "{1:1} against {2:1}: none."
     ∷ record { number = 2; given = Compared (against (dot 1 1 ∷ []) (dot 2 1 ∷ [])) ∷ []; expected = Compared (means None) ∷ [] }
     -- "{1:1,2:1} reset by {1:1,3:9}: {2:1}; {1:2} reset by {1:1}: unchanged."

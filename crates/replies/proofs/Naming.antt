@@ -1,5 +1,6 @@
 -- What 11 and 12 name, written where it fits.
 use Prim.Native.Nat.{ℕ, ◌≤◌, ◌<◌}
+use Rattle.std.specs.Prelude.{Result, Err, ⊤}
 use mathlib.Core.Path.{◌≡◌, refl, sym}
 use mathlib.Core.Bool.{Bool, true, false}
 use mathlib.Core.Option.{none}
@@ -16,9 +17,9 @@ use Rattle.replica.specs.Validate.{Spent}
 use Rattle.layout.specs.Fields.{le32, le64}
 use Rattle.layout.proofs.FieldsFacts.{length_le32, length_le64}
 use Rattle.layout.specs.Clock.{encode_dot_in}
-use Rattle.operations.specs.declared.OpValidation.{OpValidation}
-use Rattle.operations.specs.declared.OpValidation.TheVariants.{Gap}
-use Rattle.operations.specs.Calls.{validation_says}
+use Rattle.dots.specs.declared.refusals.OpRefused.{OpRefused}
+use Rattle.dots.specs.declared.refusals.OpRefused.TheVariants.{Gap}
+use Rattle.operations.specs.Calls.{gap_named}
 use Rattle.replies.specs.Reply.{if_room}
 use Rattle.replies.specs.Named.{gap_bytes, named_gap, spent_bytes}
 
@@ -49,16 +50,16 @@ pub gap_put : (g : DotRange) (o p q : List ℕ) → p ≡ sets o 0 (le64 g.start
 unfolding gap_bytes
 gap_put g o p q e f = rw (f, e) (sym (simp (sets_append, length_le64)))
 
-module _ (before : List ℕ) (v : OpValidation) where
-  abbrev gap_part : OpValidation → List ℕ
-  gap_part w = if_room (length before) (named_gap (validation_says w).range)
+module _ (before : List ℕ) (v : Result ⊤ OpRefused) where
+  abbrev gap_part : Result ⊤ OpRefused → List ℕ
+  gap_part w = if_room (length before) (named_gap (gap_named w))
 
-  pub no_gap : (w : OpValidation) → v ≡ w → (validation_says w).range ≡ none → before ≡ sets before 0 (gap_part v)
+  pub no_gap : (w : Result ⊤ OpRefused) → v ≡ w → gap_named w ≡ none → before ≡ sets before 0 (gap_part v)
   unfolding named_gap
   no_gap w e n = rw (e, n, none_named (length before))
 
-  pub a_gap : (g : DotRange) (after : List ℕ) → v ≡ Gap g → after ≡ sets before 0 (if_room (length before) (gap_bytes g)) → after ≡ sets before 0 (gap_part v)
-  unfolding named_gap validation_says
+  pub a_gap : (g : DotRange) (after : List ℕ) → v ≡ Err (Gap g) → after ≡ sets before 0 (if_room (length before) (gap_bytes g)) → after ≡ sets before 0 (gap_part v)
+  unfolding named_gap
   a_gap g after e h = rw e h
 
 -- ---- a double-spent dot

@@ -1,3 +1,4 @@
 pub mod Reply
 pub mod Named
 pub mod Lent
+pub mod Given

@@ -5,18 +5,19 @@ ghost use Rattle.std.specs.Prelude.{◌≡◌, ◌+◌, ◌*◌, length};
 ghost use Rattle.std.proofs.lemmas.List.Edits.{sets};
 ghost use Rattle.clocks.specs.VClock.{dots_of};
 ghost use Rattle.layout.specs.Clock.{encode_clock};
-ghost use Rattle.operations.specs.Calls.{validation_says};
-ghost use Rattle.replies.specs.Reply.{fitted, if_room, Replies};
+ghost use Rattle.dots.specs.Answers.{op_number_in};
+ghost use Rattle.operations.specs.Calls.{gap_named};
+ghost use Rattle.replies.specs.Reply.{if_room, Replies};
 ghost use Rattle.replies.specs.Named.{named_gap, spent_bytes, spent_of};
 ghost use Rattle.replies.specs.Lent.{unfit_clock, clock_lent};
+ghost use Rattle.replies.specs.Given.{clock_given};
 
 use clocks::VClock;
-use dots::{Actor, Dot};
+use dots::{Actor, Dot, OpRefused, Refused};
 use fields::{index, put_u32, put_u64};
-use operations::OpValidation;
 use validating::Spent;
 
-// The refusal number in the upper half, the length or count in the lower.
+// The refusal number in the upper half, the length or count in the lower: C is answered numbers (include/gatelichen.h).
 pub fn packed(no: u32, low: u32) -> u64
     ensures { result ≡ no * 4294967296 + low }
 {
@@ -28,10 +29,9 @@ pub fn packed(no: u32, low: u32) -> u64
 pub fn clock_lent(bytes: &[u8]) -> VClock
     ensures { result ≡ clock_lent bytes.now }
 {
-    let end = scan::clock_ends(bytes, 0);
-    if end == 0 {
+    let Some(end) = scan::clock_ends(bytes, 0) else {
         return unfit_clock();
-    }
+    };
     if end == bytes.len() {
         fields::clock_at(bytes, 0)
     } else {
@@ -43,25 +43,23 @@ pub fn clock_lent(bytes: &[u8]) -> VClock
 pub fn bytes_of(c: VClock) -> u32
     ensures { result ≡ length (encode_clock (dots_of c)) }
 {
-    if c.len < 16 {
-        4 + 12 * (c.len as u32)
-    } else {
-        196
-    }
+    4 + 12 * (c.len.min(16) as u32)
 }
 
-// A clock that was answered with a refusal number, written where that is 0. Refuses 10 where it doesn't fit.
-pub fn put(no: u32, low: u32, c: VClock, out: &mut [u8]) -> u64
-    ensures { Replies (fitted (length out.old) no low (encode_clock (dots_of c))) out.old result out.new }
+// A clock that is given with a number beside it, written where it fits, or the refusal. Refuses 10 where it doesn't fit.
+pub fn put(given: Result<(u32, VClock), Refused>, out: &mut [u8]) -> u64
+    ensures { Replies (clock_given (length out.old) given) out.old result out.new }
 {
-    if no != 0 {
-        return packed(no, 0);
+    match given {
+        Ok((low, c)) => {
+            if out.len() < index(bytes_of(c)) {
+                return packed(Refused::ShortOutput.number(), 0);
+            }
+            fields::put_clock(out, 0, c);
+            packed(0, low)
+        }
+        Err(refused) => packed(refused.number(), 0),
     }
-    if out.len() < index(bytes_of(c)) {
-        return packed(10, 0);
-    }
-    fields::put_clock(out, 0, c);
-    packed(0, low)
 }
 
 // Writes a double-spent dot and its two members, where 20 bytes fit.
@@ -78,28 +76,25 @@ pub fn put_spent(x: Spent, out: &mut [u8])
 }
 
 // The number of a verdict.
-pub fn number_of(v: OpValidation) -> u32
-    ensures { result ≡ (validation_says v).number }
+pub fn number_of(v: Result<(), OpRefused>) -> u32
+    ensures { result ≡ op_number_in v }
 {
     match v {
-        OpValidation::Valid => 0,
-        OpValidation::BadImage => 1,
-        OpValidation::BadClock => 3,
-        OpValidation::LongList => 4,
-        OpValidation::Gap(_) => 11,
+        Ok(()) => 0,
+        Err(refused) => refused.number(),
     }
 }
 
 // Writes the gap that a verdict names, start and end, where 16 bytes fit.
-pub fn put_gap(v: OpValidation, out: &mut [u8])
-    ensures { out.new ≡ sets out.old 0 (if_room (length out.old) (named_gap (validation_says v).range)) }
+pub fn put_gap(v: Result<(), OpRefused>, out: &mut [u8])
+    ensures { out.new ≡ sets out.old 0 (if_room (length out.old) (named_gap (gap_named v))) }
 {
-    match v {
-        OpValidation::Valid => {}
-        OpValidation::BadImage => {}
-        OpValidation::BadClock => {}
-        OpValidation::LongList => {}
-        OpValidation::Gap(g) => {
+    let Err(refused) = v else {
+        return;
+    };
+    match refused {
+        OpRefused::Refused(_) => {}
+        OpRefused::Gap(g) => {
             if out.len() < 16 {
                 return;
             }

@@ -1,5 +1,5 @@
 -- A draft of a replica, finished, is that replica's call.
-use Rattle.std.specs.Prelude.{ℕ, ◌≤◌, Bool, eqb, length}
+use Rattle.std.specs.Prelude.{Result, ℕ, ◌≤◌, Bool, eqb, length}
 use Rattle.std.proofs.Math.Path.{◌≡◌, refl, ap₂}
 use Rattle.std.proofs.Common.{sym, ap, ◌∙◌}
 use Rattle.std.proofs.Math.Bool.{true, false}
@@ -20,7 +20,7 @@ use Rattle.layout.specs.Rows.{encode_rows, encode_waits}
 use Rattle.layout.specs.Image.{contents, contents_of, rows_from, waits_from, length_of, encode_in, encode}
 use Rattle.layout.proofs.Round.{length_encode}
 use Rattle.layout.proofs.KitFacts.{length_encode_clock}
-use Rattle.results.specs.declared.Written.{Written}
+use Rattle.dots.specs.declared.refusals.Refused.{Refused}
 use Rattle.results.specs.declared.Draft.{Draft}
 use Rattle.results.specs.Call.{Call, finish_of, number_of, answered, answer_of, output_of, Meets}
 use Rattle.results.specs.Finish.{start_of, draft_no, draft_bytes, Finished}
@@ -67,7 +67,7 @@ module _ (R : Replica) (v : VClock) (d : Draft) (body : List ℕ) (D : Drafted R
       (λ i. contents (D.end i) (start_is i) (D.entries i) (D.middle i) (D.waits i))
       (ap₂ ◌++◌ (ap encode_clock D.clock) (D.body_is z))
 
-pub finish_meets : (c : Call) (v : VClock) (d : Draft) (body before : List ℕ) (r : Written) (after : List ℕ)
+pub finish_meets : (c : Call) (v : VClock) (d : Draft) (body before : List ℕ) (r : Result ℕ Refused) (after : List ℕ)
     → ((room : ℕ) → number_of full c room ≡ first_of (finish_of full c.result room)) → Drafted c.result v d body → Finished v d body before r after → Meets full c before r after
 unfolding answer_of output_of
 finish_meets c v d body before r after e D f = record {

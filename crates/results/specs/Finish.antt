@@ -1,5 +1,5 @@
 -- How a result is finished: its clock and the counts of its draft are judged, and it is written whole.
-use Rattle.std.specs.Prelude.{ℕ, ◌+◌, ◌*◌, ◌≡◌, List, [], ◌∷◌, ◌++◌, eqb, ltb, length}
+use Rattle.std.specs.Prelude.{Result, ℕ, ◌+◌, ◌*◌, ◌≡◌, List, [], ◌∷◌, ◌++◌, eqb, ltb, length}
 use Rattle.std.proofs.lemmas.List.Edits.{sets}
 use Rattle.std.proofs.Math.Seq.{slice}
 use Rattle.tables.specs.Table.{pick}
@@ -8,7 +8,7 @@ use Rattle.clocks.specs.declared.VClock.{VClock}
 use Rattle.clocks.specs.VClock.{dots_of}
 use Rattle.layout.specs.Image.{contents}
 use Rattle.layout.specs.Clock.{encode_clock}
-use Rattle.results.specs.declared.Written.{Written}
+use Rattle.dots.specs.declared.refusals.Refused.{Refused}
 use Rattle.results.specs.declared.Draft.{Draft}
 use Rattle.results.specs.Call.{answered}
 
@@ -25,6 +25,6 @@ draft_no v d room =
 unfoldable pub draft_bytes : VClock → Draft → List ℕ → List ℕ
 draft_bytes v d body = contents d.end (start_of v) d.entries d.middle d.waits ++ (encode_clock (dots_of v) ++ slice (start_of v) d.end body)
 
-pub record Finished (v : VClock) (d : Draft) (body before : List ℕ) (r : Written) (after : List ℕ) : Type 0 where
+pub record Finished (v : VClock) (d : Draft) (body before : List ℕ) (r : Result ℕ Refused) (after : List ℕ) : Type 0 where
   pub answer : r ≡ answered (draft_no v d (length before)) d.end
   pub output : after ≡ pick (eqb (draft_no v d (length before)) 0) (sets before 0 (draft_bytes v d body)) before

@@ -4,18 +4,11 @@
 ghost use Rattle.std.specs.Prelude.{◌≡◌, ◌-◌, ◌<◌, min};
 ghost use Rattle.std.proofs.lemmas.List.Edits.{sets};
 ghost use Rattle.std.proofs.Math.Seq.{slice};
-ghost use Rattle.results.specs.Call.{answered};
 ghost use Rattle.results.specs.Finish.{Finished};
 
 use clocks::VClock;
+use dots::Refused;
 use fields::index;
-
-// The refusal number, or 0 with the length of what was written.
-#[derive(Clone, Copy)]
-pub struct Written {
-    pub no: u32,
-    pub len: usize,
-}
 
 // A result without contents and clock: how many entries and waiting removes it has, the most members that a waiting remove names, where the
 // waiting removes start and where they end.
@@ -28,67 +21,44 @@ pub struct Draft {
     pub end: u32,
 }
 
-// A refusal.
-pub fn refused(no: u32) -> Written
-    ensures { result ≡ answered no 0 }
-{
-    Written { no, len: 0 }
-}
-
-// The smaller of two numbers.
-fn fewer(x: usize, y: usize) -> usize
-    ensures { result ≡ min x y }
-{
-    if x < y { x } else { y }
-}
-
-// How far it is from a place up to an end; 0 where the end isn't past it.
-fn apart(from: usize, end: usize) -> usize
-    ensures { result ≡ end - from }
-{
-    if from < end { end - from } else { 0 }
-}
-
 // Writes the bytes of s from a place up to an end to the output, from `at` on: those that s has, as far as the output goes.
 pub fn copy(s: &[u8], from: usize, end: usize, out: &mut [u8], at: usize)
     ensures { out.new ≡ sets out.old at (slice from end s.now) }
 {
-    let given = apart(from, fewer(end, s.len()));
-    let n = fewer(given, apart(at, out.len()));
-    let mut i: usize = 0;
-    while i < n {
-        out[at + i] = s[from + i];
-        i += 1;
+    let given = end.min(s.len()).saturating_sub(from);
+    let n = given.min(out.len().saturating_sub(at));
+    if 0 < n {
+        out[at..at + n].copy_from_slice(&s[from..from + n]);
     }
 }
 
 // The result with clock v whose entries and waiting removes stand in the body, where they do in the image: written from byte 0. Refuses 6, 7, 8, 9
 // by the counts, then 10 where the output is shorter than the end.
-pub fn finish(v: VClock, d: Draft, body: &[u8], out: &mut [u8]) -> Written
+pub fn finish(v: VClock, d: Draft, body: &[u8], out: &mut [u8]) -> Result<usize, Refused>
     ensures { Finished v d body.now out.old result out.new }
 {
     if 16 < v.len {
-        return refused(6);
+        return Err(Refused::ManyActors);
     }
     if 64 < d.entries {
-        return refused(7);
+        return Err(Refused::ManyEntries);
     }
     if 16 < d.waits {
-        return refused(8);
+        return Err(Refused::ManyWaits);
     }
     if 32 < d.most {
-        return refused(9);
+        return Err(Refused::ManyNamed);
     }
     let end = index(d.end);
     if out.len() < end {
-        return refused(10);
+        return Err(Refused::ShortOutput);
     }
     let start = 28 + 12 * v.len;
     if end < start {
-        return refused(10);
+        return Err(Refused::ShortOutput);
     }
     fields::put_contents(out, d.end, start as u32, d.entries, d.middle, d.waits);
     fields::put_clock(out, 24, v);
     copy(body, start, end, out, start);
-    Written { no: 0, len: end }
+    Ok(end)
 }

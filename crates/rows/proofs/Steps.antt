@@ -2,12 +2,11 @@
 use Prim.Native.Nat.{ℕ, ◌+◌, ◌-◌, ◌*◌, ◌≤◌, ◌<◌, min, compare, Ordering}
 use mathlib.Core.Path.{◌≡◌, refl, sym, ap, ◌∙◌}
 use mathlib.Core.Bool.{Bool, true, false, ◌||◌}
-use mathlib.Core.List.{List}
+use mathlib.Core.List.{List, ◌++◌}
 use native.Mathlib.Omega.{arith}
-use native.Mathlib.Numerals.{add-one}
 use lib.Dec.{compare_is_eq}
-use lib.ListN.{length, take, drop, get_or, length-take, length-append, drop_of_length-le}
-use lib.Seq.{sets, slice-cons, length-take-le, length-sets, take_all}
+use lib.ListN.{length, take, length-take, length-append}
+use lib.Seq.{length-sets, take_all}
 use Rattle.tables.specs.Stores.{sets_append}
 use Rattle.tables.specs.Order.{nat_order, self}
 use Rattle.tables.specs.Table.{has, has_cons}
@@ -17,12 +16,12 @@ use Rattle.clocks.specs.declared.VClock.{VClock}
 use Rattle.clocks.specs.VClock.{dots_of, vclock}
 use Rattle.layout.specs.Fields.{u32_at, le32}
 use Rattle.layout.proofs.FieldsFacts.{length_le32}
-use Rattle.layout.specs.Lists.{list_at, bytes_of}
+use Rattle.layout.specs.Lists.{list_at}
 use Rattle.layout.specs.Clock.{clock_end, clock_end_in, encode_clock}
 use Rattle.layout.specs.Rows.{members_at, member_end, encode_members, encode_wait, encode_wait_in}
 use Rattle.layout.proofs.KitFacts.{length_encode_members}
 use Rattle.fields.specs.Read.{clock_read, Put}
-use Rattle.fields.proofs.Steps.{list_step, list_end, u32_past, sets_past}
+use Rattle.fields.proofs.Steps.{list_step, list_end, u32_past, sets_past, of_few}
 use Rattle.rows.specs.declared.Row.{Row}
 use Rattle.rows.specs.declared.WaitRow.{WaitRow}
 use Rattle.rows.specs.Rows.{row_read, wait_read, named_read, counted, wait_of}
@@ -74,33 +73,25 @@ module _ (s : List ℕ) (p k m : ℕ) where
 
 -- ---- members written
 
-pub store_step : (s ms : List ℕ) (n p i : ℕ) → i < n → n ≤ length ms
-    → sets (sets s p (le32 (get_or ms i 0))) (p + 4) (encode_members (drop (i + 1) (take n ms))) ≡ sets s p (encode_members (drop i (take n ms)))
-unfolding bytes_of
-store_step s ms n p i h hn = rw (add-one, slice-cons i n ms 0 h hn, sets_append, length_le32)
+short_part : (ms : List ℕ) (n : ℕ) → n ≡ min (length ms) 32 → length (take n ms) ≤ 64
+short_part ms n e = simp length-take (omega arith)
 
-pub store_end : (s ms : List ℕ) (n p i : ℕ) → n ≤ i → sets s p (encode_members (drop i (take n ms))) ≡ s
-unfolding bytes_of
-store_end s ms n p i h = let e : length (take n ms) ≤ i = simp length-take (omega arith) in rw (drop_of_length-le (take n ms) e)
+-- the first 32, where there are so many
+pub first_written : (ms : List ℕ) (n : ℕ) (s t : List ℕ) (at r : ℕ) → n ≡ min (length ms) 32 → Put s at (le32 (length (take 64 (take n ms))) ++ encode_members (take 64 (take n ms))) t r → Put s at (counted (take 32 ms)) t r
+unfolding counted
+first_written ms n s t at r e p = rw first at (of_few _ _ _ _ _ (short_part ms n e) p)
+  where
+    first : take n ms ≡ take 32 ms
+    first = by_lt (length ms) 32
+        (λ l. take_all n ms (omega arith) ∙ sym (take_all 32 ms (omega arith)))
+        (λ l. let q : n ≡ 32 = omega arith in rw q)
 
-module _ (ms : List ℕ) (n : ℕ) (e : n ≡ min (length ms) 32) where
-  first : take n ms ≡ take 32 ms
-  first = by_lt (length ms) 32
-      (λ l. take_all n ms (omega arith) ∙ sym (take_all 32 ms (omega arith)))
-      (λ l. let q : n ≡ 32 = omega arith in rw q)
-
-  members_long : 4 + 4 * n ≡ length (counted (take 32 ms))
-  unfolding counted
-  members_long = simp (length-append, length_le32, length_encode_members, length-take) (omega arith)
-
-  pub members_none : (s : List ℕ) (at : ℕ) → length s ≤ at → Put s at (counted (take 32 ms)) s (4 + 4 * n)
-  members_none s at past = record { long = members_long; is = sym (sets_past s at (counted (take 32 ms)) past) }
-
-  pub members_done : (s t : List ℕ) (at : ℕ) → t ≡ sets (sets s at (le32 n)) (at + 4) (encode_members (take n ms)) → Put s at (counted (take 32 ms)) t (4 + 4 * n)
-  unfolding counted
-  members_done s t at w =
-      let l : length (take n ms) ≡ n = length-take-le n ms (omega arith) in
-      record { long = members_long; is = w ∙ rw (← first, l, sets_append, length_le32) }
+pub named_short : (ms s t : List ℕ) (n at r : ℕ) → n ≡ min (length ms) 32 → Put s at (le32 (length (take 64 (take n ms))) ++ encode_members (take 64 (take n ms))) t r → r ≤ 132
+named_short ms s t n at r e q =
+    let p = of_few _ _ _ _ _ (short_part ms n e) q in
+    let l = p.long in
+    let k : length (take n ms) ≤ 32 = simp length-take (omega arith) in
+    omega (arith, simp (length-append, length_le32, length_encode_members) at l)
 
 -- ---- a waiting remove written in two parts
 

@@ -10,7 +10,7 @@ ghost use Rattle.rows.specs.Rows.{row_read, wait_read, named_read, counted, wait
 
 use clocks::VClock;
 use dots::Member;
-use fields::{clock_at, index, put_clock, put_u32, u32_at};
+use fields::{clock_at, index, put_clock, put_members, u32_at};
 
 // An entry.
 #[derive(Clone, Copy)]
@@ -24,12 +24,6 @@ pub struct Row {
 pub struct WaitRow {
     pub clock: VClock,
     pub count: u32,
-}
-
-fn at_most_32(n: usize) -> usize
-    ensures { (result ≡ min n 32) × (result ≤ 32) }
-{
-    if n < 32 { n } else { 32 }
 }
 
 // The entry at a place.
@@ -80,45 +74,24 @@ pub fn names(s: &[u8], at: usize, member: Member) -> bool
         return false;
     }
     let q = clock_end(s, at);
-    let n = at_most_32(index(u32_at(s, q)));
-    let mut p = q + 4;
-    let mut i: usize = 0;
-    while i < n {
+    let n = index(u32_at(s, q)).min(32);
+    for i in 0..n {
+        let p = q + 4 + 4 * i;
         if u32_at(s, p) == member.0 {
             return true;
         }
-        p += 4;
-        i += 1;
     }
     false
-}
-
-// Writes how many the first 32 members of a list are, then these members, and returns how many bytes that takes.
-fn put_named(s: &mut [u8], at: usize, members: &[u32]) -> usize
-    ensures { Put s.old at (counted (take 32 members.now)) s.new result × (result ≤ 132) }
-{
-    let n = at_most_32(members.len());
-    if s.len() <= at {
-        return 4 + 4 * n;
-    }
-    put_u32(s, at, n as u32);
-    let mut p = at + 4;
-    let mut i: usize = 0;
-    while i < n {
-        put_u32(s, p, members[i]);
-        p += 4;
-        i += 1;
-    }
-    4 + 4 * n
 }
 
 // Writes a waiting remove of a clock and the first 32 members of a list, in the list's order, and returns how many bytes that takes.
 pub fn put_wait(out: &mut [u8], at: usize, clock: VClock, members: &[u32]) -> usize
     ensures { Put out.old at (encode_wait (wait_of clock members.now)) out.new result }
 {
+    let named = &members[..members.len().min(32)];
     let r = put_clock(out, at, clock);
     if out.len() <= at {
-        return r + put_named(out, at, members);
+        return r + put_members(out, at, named);
     }
-    r + put_named(out, at + r, members)
+    r + put_members(out, at + r, named)
 }

@@ -7,8 +7,8 @@ use mathlib.Core.Option.{Option, none, some}
 use mathlib.Core.List.{List, [], ◌∷◌, ◌++◌, map}
 use native.Mathlib.Omega.{arith}
 use lib.Dec.{eqb}
-use lib.ListN.{take, get_or, replicate}
-use lib.Seq.{get_or-take}
+use lib.ListN.{length, take, get_or, replicate}
+use lib.Seq.{take-length}
 use Rattle.tables.specs.Table.{pick, is_some, get, All, all_map}
 use Rattle.tables.specs.Zip.{Rise}
 use Rattle.tables.specs.Refusal.{first_of}
@@ -28,9 +28,13 @@ use Rattle.image.proofs.Link.{image_good}
 use Rattle.checked.proofs.Known.{known}
 use Rattle.kills.specs.Laws.{along_is}
 use Rattle.kills.proofs.Steps.{taken}
-use Rattle.validating.specs.declared.Validation.TheVariants.{BadFirst, BadSecond}
+use Rattle.std.specs.Prelude.{Some, Result, Err, ⊤}
+use Rattle.dots.specs.declared.refusals.Refused.TheVariants.{BadImage, BadSecond}
+use Rattle.dots.specs.Answers.{refusal}
+use Rattle.validating.specs.declared.MergeRefused.{MergeRefused}
+use Rattle.validating.specs.declared.MergeRefused.TheVariants.{Refused}
 use Rattle.validating.specs.Search.{Sight, sight, reportable as reportableBy, spotted, with_counts, sights, sights_beside, sights_of, verdict, Listed}
-use Rattle.validating.specs.Calls.{Validated, validation_says, validate_merge_call}
+use Rattle.validating.specs.Calls.{merge_answer, validate_merge_call}
 
 mapped_append : {X Y : Type 0} (f : X → Y) (xs ys : List X) → map f (xs ++ ys) ≡ map f xs ++ map f ys
 mapped_append f [] ys = refl
@@ -74,63 +78,65 @@ spotted_first : (xs : List Triple) → first (λ t. spotted (sight_of t)) xs ≡
 unfolding spotted reportable reportableBy
 spotted_first xs = refl
 
-abbrev answer_of : Option Spent → Validated
-answer_of x = record { number = pick (is_some x) 12 0; spent = x }
+abbrev answer_of : Option Spent → Result ⊤ MergeRefused
+answer_of x = merge_answer (pick (is_some x) 12 0) x
 
-found_is : (A B : Replica) → All Ascends A.entries → All Ascends B.entries → validation_says (verdict (first spotted (sights_of A.entries B.entries))) ≡ answer_of (validate_merge A B)
-unfolding validate_merge first_spent validation_says
+found_is : (A B : Replica) → All Ascends A.entries → All Ascends B.entries → verdict (first spotted (sights_of A.entries B.entries)) ≡ answer_of (validate_merge A B)
+unfolding validate_merge first_spent
 found_is A B p q =
-    ap (λ (l : List Sight). validation_says (verdict (first spotted l))) (sights_all A.entries B.entries p q)
-    ∙ ap (λ (o : Option Sight). validation_says (verdict o)) (first_mapped sight_of spotted (triples A.entries B.entries))
-    ∙ ap (λ (o : Option Triple). validation_says (verdict (Option.map sight_of o))) (spotted_first (triples A.entries B.entries))
+    ap (λ (l : List Sight). verdict (first spotted l)) (sights_all A.entries B.entries p q)
+    ∙ ap verdict (first_mapped sight_of spotted (triples A.entries B.entries))
+    ∙ ap (λ (o : Option Triple). verdict (Option.map sight_of o)) (spotted_first (triples A.entries B.entries))
     ∙ go (first reportable (triples A.entries B.entries))
   where
-    go : (o : Option Triple) → validation_says (verdict (Option.map sight_of o)) ≡ answer_of (Option.map spent_of o)
+    go : (o : Option Triple) → verdict (Option.map sight_of o) ≡ answer_of (Option.map spent_of o)
     go none = refl
     go (some t) = refl
 
 -- ---- of two images
 
 -- the entries of a good image stand at its places
-pub listed : (s : List ℕ) (x : Image) → x ≡ check_image s → x.good ≡ true → Listed s x.places x.entries
+pub listed : (s : List ℕ) (x : Image) → Some x ≡ check_image s → Listed s (take x.entries x.places) (length (take x.entries x.places))
 unfolding image_of_bytes
-listed s x c g =
-    let t = image_good s x c true g in
+listed s x c =
+    let t = image_good s x c in
     let h = passed s t.0 in
     let n = entries_count s in
     let ps = places_at s (entries_start s) n in
-    let k : x.entries ≡ n = ap (λ (y : Image). y.entries) t.1 in
     let w : take x.entries x.places ≡ ps =
     ap (λ (y : Image). take y.entries y.places) t.1 ∙ taken (replicate 64 0) ps n (length_starts_at row_end s (entries_start s) n) h.few_members in
-    let f = known s x c g in
+    let f = known s x c in
+    let l : length (take x.entries x.places) ≡ n = ap length w ∙ length_starts_at row_end s (entries_start s) n in
     record {
-      few = f.few;
+      few = omega (arith, h.few_members);
       good = f.is_good;
-      rows = f.rows_are;
-      clock = λ i l. let q : get_or x.places i 0 ≡ get_or ps i 0 = sym (get_or-take x.entries x.places i 0 l) ∙ ap (λ (y : List ℕ). get_or y i 0) w in
-          rw q (stands s (get_or ps i 0 + 4) (place_good s (entries_start s) 0 n i h.rows_good (omega arith)));
+      rows = rw (take-length (take x.entries x.places)) f.rows_are;
+      clock = λ i q. rw w (stands s (get_or ps i 0 + 4) (place_good s (entries_start s) 0 n i h.rows_good (omega arith)));
     }
 
 ascend_good : (a : List ℕ) → good_image a ≡ true → All Ascends (image_of a).entries
 ascend_good a g = all_map (EntryFine full (image_of a)) Ascends (image_of a).entries (λ e f. f.normal_ok.asc) (passed a g).formed.entries_ok
 
 module _ (a b : List ℕ) where
-  both_good : good_image a ≡ true → good_image b ≡ true → validation_says (verdict (first spotted (sights_of (image_of a).entries (image_of b).entries))) ≡ validate_merge_call a b
+  both_good : good_image a ≡ true → good_image b ≡ true → verdict (first spotted (sights_of (image_of a).entries (image_of b).entries)) ≡ validate_merge_call a b
   unfolding validate_merge_call first_of
   both_good p q = found_is (image_of a) (image_of b) (ascend_good a p) (ascend_good b q) ∙ rw (p, q) (go (validate_merge (image_of a) (image_of b)))
     where
-      go : (x : Option Spent) → answer_of x ≡ record { number = pick (is_some x) 12 0; spent = pick (eqb (pick (is_some x) 12 0) 12) x none }
+      go : (x : Option Spent) → answer_of x ≡ merge_answer (pick (is_some x) 12 0) (pick (eqb (pick (is_some x) 12 0) 12) x none)
       go none = refl
       go (some x) = refl
 
-  pub both_found : (ours theirs : List ℕ) (na nb : ℕ) → Listed a ours na → Listed b theirs nb
-      → validation_says (verdict (first spotted (sights_of (map (row_at a) (take na ours)) (map (row_at b) (take nb theirs))))) ≡ validate_merge_call a b
-  both_found ours theirs na nb h k = rw (h.rows, k.rows) (both_good h.good k.good)
+  pub both_found : (ours theirs : List ℕ) → Listed a ours (length ours) → Listed b theirs (length theirs)
+      → verdict (first spotted (sights_of (map (row_at a) ours) (map (row_at b) theirs))) ≡ validate_merge_call a b
+  both_found ours theirs h k =
+      let e : map (row_at a) ours ≡ (image_of a).entries = ap (map (row_at a)) (sym (take-length ours)) ∙ h.rows in
+      let f : map (row_at b) theirs ≡ (image_of b).entries = ap (map (row_at b)) (sym (take-length theirs)) ∙ k.rows in
+      rw (e, f) (both_good h.good k.good)
 
-  pub bad_second : good_image a ≡ true → good_image b ≡ false → validation_says BadSecond ≡ validate_merge_call a b
-  unfolding validate_merge_call first_of validation_says
+  pub bad_second : good_image a ≡ true → good_image b ≡ false → Err (Refused BadSecond) ≡ validate_merge_call a b
+  unfolding validate_merge_call first_of refusal
   bad_second p q = rw (p, q)
 
-  pub bad_first : good_image a ≡ false → validation_says BadFirst ≡ validate_merge_call a b
-  unfolding validate_merge_call first_of validation_says
+  pub bad_first : good_image a ≡ false → Err (Refused BadImage) ≡ validate_merge_call a b
+  unfolding validate_merge_call first_of refusal
   bad_first p = rw p

@@ -144,14 +144,12 @@ entry_fine : (s places : List ℕ) (n i p : ℕ) → Listed s places n → i < n
 entry_fine s places n i p h l g e = rw e (all_place (EntryFine full (image_of s)) (entry_at s) places n i l g (rw h.rows (passed s h.good).formed.entries_ok))
 
 -- what is known before the search: both lists of entries, and the keys of theirs along our m actors
-pub record Ready (a ours b theirs lines : List ℕ) (na nb m : ℕ) : Type 0 where
-  pub ours_ok : Listed a ours na
-  pub theirs_ok : Listed b theirs nb
-  pub ours_long : na ≤ length ours
-  pub theirs_long : nb ≤ length theirs
+pub record Ready (a ours b theirs lines : List ℕ) (m : ℕ) : Type 0 where
+  pub ours_ok : Listed a ours (length ours)
+  pub theirs_ok : Listed b theirs (length theirs)
   pub actors_are : m ≡ u32_at a 24
   pub actors_few : m ≤ 16
-  pub lines_are : Keyed (dots_at a 28 m) b theirs lines nb m
+  pub lines_are : Keyed (dots_at a 28 m) b theirs lines (length theirs) m
 
 -- what is known of our i-th entry, at p
 pub record OurRow (a ours keys : List ℕ) (i p our n m : ℕ) : Type 0 where
@@ -161,16 +159,16 @@ pub record OurRow (a ours keys : List ℕ) (i p our n m : ℕ) : Type 0 where
   pub stands_ok : Stands a (p + 4)
   pub keys_ok : keys ≡ sets (replicate 16 65535) 0 (keys_of 65535 (dots_at a 28 m) (clock_at a (p + 4)))
 
-pub row_apart : (a ours b theirs keys lines : List ℕ) (na nb m i p our n j q : ℕ) → Ready a ours b theirs lines na nb m → OurRow a ours keys i p our n m → i < na → j < nb → q ≡ get_or theirs j 0
+pub row_apart : (a ours b theirs keys lines : List ℕ) (m i p our n j q : ℕ) → Ready a ours b theirs lines m → OurRow a ours keys i p our n m → i < length ours → j < length theirs → q ≡ get_or theirs j 0
     → Apart keys lines j 16 → Unspotted (sights (entry_at a p).member (entry_at b q).member (entry_at a p).clock (entry_at b q).clock)
 unfolding image_in clock_in row_in
-row_apart a ours b theirs keys lines na nb m i p our n j q g o li lj eq x =
+row_apart a ours b theirs keys lines m i p our n j q g o li lj eq x =
     let v = dots_at a 28 m in
     let os = clock_at a (p + 4) in
     let ts = clock_at b (q + 4) in
     let few = g.actors_few in
-    let fa = entry_fine a ours na i p g.ours_ok li g.ours_long o.place_is in
-    let fb = entry_fine b theirs nb j q g.theirs_ok lj g.theirs_long eq in
+    let fa = entry_fine a ours (length ours) i p g.ours_ok li (omega arith) o.place_is in
+    let fb = entry_fine b theirs (length theirs) j q g.theirs_ok lj (omega arith) eq in
     let cv : (image_of a).clock ≡ v = rw g.actors_are in
     let rv : Rise dots v = rw (← cv) (passed a g.ours_ok.good).formed.clock_ok.asc in
     let l : length v ≡ m = length_list_at (dot_in narrow) (dot_end_in narrow) a 28 m in

@@ -1,11 +1,12 @@
 -- What is ahead in each of the three loops, and what one turn does to it, in the code's terms.
 use Prim.Native.Nat.{ℕ, zero, suc, ◌+◌, ◌-◌, ◌*◌, ◌≤◌, ◌<◌}
+use Rattle.std.specs.Prelude.{Result, Ok, Err, ⊤}
 use mathlib.Core.Path.{◌≡◌, refl, sym, ap, ◌∙◌}
 use mathlib.Core.Bool.{true, false}
 use mathlib.Core.List.{List, [], ◌∷◌, ◌++◌, map, append_assoc}
 use native.Mathlib.Omega.{arith}
-use lib.ListN.{length, take, set, get_or}
-use lib.Seq.{sets, slice}
+use lib.ListN.{length, set, get_or}
+use lib.Seq.{sets, slice, take-length}
 use Rattle.tables.specs.Table.{All}
 use Rattle.tables.specs.Zip.{said}
 use Rattle.dots.specs.declared.Dot.{Dot}
@@ -22,8 +23,7 @@ use Rattle.layout.specs.Rows.{row_in, row_at}
 use Rattle.fields.proofs.Steps.{list_step, list_end}
 use Rattle.kills.specs.Lines.{reach, along}
 use Rattle.kills.proofs.Steps.{skip_dot, stop_dot, end_dot, counted_none, counted_first, counted_other}
-use Rattle.validating.specs.declared.Validation.{Validation}
-use Rattle.validating.specs.declared.Validation.TheVariants.{Valid}
+use Rattle.validating.specs.declared.MergeRefused.{MergeRefused}
 use Rattle.validating.specs.Search.{Sight, sight, reportable, spotted, sights, sights_beside, sights_of, spent_is, verdict, Listed, Walked, key_of, keys_of}
 
 -- ---- the walk past an actor, with the dots from p on ahead
@@ -111,59 +111,59 @@ none_first : (xs ys : List Sight) → Unspotted xs → first spotted (xs ++ ys) 
 none_first [] ys h = refl
 none_first (x ∷ xs) ys h = rw h.0 (none_first xs ys h.1)
 
-module _ (a ours : List ℕ) (na : ℕ) (b theirs : List ℕ) (nb : ℕ) where
+module _ (a ours b theirs : List ℕ) where
   abbrev they : List Entry
-  they = map (row_at b) (take nb theirs)
+  they = map (row_at b) theirs
 
-  unfoldable pub at_ours : ℕ → Validation
-  at_ours i = verdict (first spotted (sights_of (map (row_at a) (slice i na ours)) they))
+  unfoldable pub at_ours : ℕ → Result ⊤ MergeRefused
+  at_ours i = verdict (first spotted (sights_of (map (row_at a) (slice i (length ours) ours)) they))
 
   abbrev later : ℕ → List Sight
-  later i = sights_of (map (row_at a) (slice (i + 1) na ours)) they
+  later i = sights_of (map (row_at a) (slice (i + 1) (length ours) ours)) they
 
-  unfoldable pub at_theirs : ℕ → ℕ → ℕ → Validation
-  at_theirs i p j = verdict (first spotted (sights_beside (row_at a p) (map (row_at b) (slice j nb theirs)) ++ later i))
+  unfoldable pub at_theirs : ℕ → ℕ → ℕ → Result ⊤ MergeRefused
+  at_theirs i p j = verdict (first spotted (sights_beside (row_at a p) (map (row_at b) (slice j (length theirs) theirs)) ++ later i))
 
   -- k of our n dots are past, and `left` of theirs are ahead from y on
-  unfoldable pub at_actors : (i p our n j their k y left : ℕ) → Validation
+  unfoldable pub at_actors : (i p our n j their k y left : ℕ) → Result ⊤ MergeRefused
   at_actors i p our n j their k y left =
-      verdict (first spotted (sights our their (dots_at a (p + 8 + 12 * k) (n - k)) (dots_at b y left) ++ (sights_beside (row_at a p) (map (row_at b) (slice (j + 1) nb theirs)) ++ later i)))
+      verdict (first spotted (sights our their (dots_at a (p + 8 + 12 * k) (n - k)) (dots_at b y left) ++ (sights_beside (row_at a p) (map (row_at b) (slice (j + 1) (length theirs) theirs)) ++ later i)))
 
-  pub whole_is : at_ours 0 ≡ verdict (first spotted (sights_of (map (row_at a) (take na ours)) they))
+  pub whole_is : at_ours 0 ≡ verdict (first spotted (sights_of (map (row_at a) ours) they))
   unfolding at_ours
-  whole_is = refl
+  whole_is = rw (take-length ours)
 
   module _ (i : ℕ) where
-    pub our_row : (p : ℕ) → i < na → na ≤ length ours → p ≡ get_or ours i 0 → at_ours i ≡ at_theirs i p 0
+    pub our_row : (p : ℕ) → i < length ours → p ≡ get_or ours i 0 → at_ours i ≡ at_theirs i p 0
     unfolding at_ours at_theirs
-    our_row p h n e = rw (ahead ours i na 0 h n, e)
+    our_row p h e = rw (ahead ours i (length ours) 0 h (omega arith), e, take-length theirs)
 
-    pub our_end : na ≤ i → at_ours i ≡ Valid
+    pub our_end : length ours ≤ i → at_ours i ≡ Ok tt
     unfolding at_ours
-    our_end h = rw (done ours i na h)
+    our_end h = rw (done ours i (length ours) h)
 
     module _ (p j : ℕ) where
-      pub their_end : nb ≤ j → at_theirs i p j ≡ at_ours (i + 1)
+      pub their_end : length theirs ≤ j → at_theirs i p j ≡ at_ours (i + 1)
       unfolding at_theirs at_ours
-      their_end h = rw (done theirs j nb h)
+      their_end h = rw (done theirs j (length theirs) h)
 
       -- an entry of theirs at q that has no sight to report
-      pub their_past : (q : ℕ) → j < nb → nb ≤ length theirs → q ≡ get_or theirs j 0 → Unspotted (sights (row_at a p).member (row_at b q).member (row_at a p).clock (row_at b q).clock) → at_theirs i p j ≡ at_theirs i p (j + 1)
+      pub their_past : (q : ℕ) → j < length theirs → q ≡ get_or theirs j 0 → Unspotted (sights (row_at a p).member (row_at b q).member (row_at a p).clock (row_at b q).clock) → at_theirs i p j ≡ at_theirs i p (j + 1)
       unfolding at_theirs
-      their_past q h l e u =
-          let x = sights_beside (row_at a p) (map (row_at b) (slice (j + 1) nb theirs)) in
+      their_past q h e u =
+          let x = sights_beside (row_at a p) (map (row_at b) (slice (j + 1) (length theirs) theirs)) in
           let z = sights (row_at a p).member (row_at b q).member (row_at a p).clock (row_at b q).clock in
-          rw (ahead theirs j nb 0 h l, ← e, append_assoc z x (later i), none_first z (x ++ later i) u)
+          rw (ahead theirs j (length theirs) 0 h (omega arith), ← e, append_assoc z x (later i), none_first z (x ++ later i) u)
 
       module _ (our n their : ℕ) where
-        pub their_row : (q y left : ℕ) → j < nb → nb ≤ length theirs → q ≡ get_or theirs j 0 → our ≡ u32_at a p → n ≡ u32_at a (p + 4) → their ≡ u32_at b q → y ≡ q + 8 → left ≡ u32_at b (q + 4)
+        pub their_row : (q y left : ℕ) → j < length theirs → q ≡ get_or theirs j 0 → our ≡ u32_at a p → n ≡ u32_at a (p + 4) → their ≡ u32_at b q → y ≡ q + 8 → left ≡ u32_at b (q + 4)
             → at_theirs i p j ≡ at_actors i p our n j their 0 y left
         unfolding at_theirs at_actors row_in clock_in
-        their_row q y left h l e eo en et ey el =
+        their_row q y left h e eo en et ey el =
             let x : p + 8 + 12 * 0 ≡ p + 4 + 4 = omega arith in
             let m : n - 0 ≡ u32_at a (p + 4) = omega arith in
             let z : y ≡ q + 4 + 4 = omega arith in
-            rw (ahead theirs j nb 0 h l, ← e, append_assoc, eo, et, x, m, z, el)
+            rw (ahead theirs j (length theirs) 0 h (omega arith), ← e, append_assoc, eo, et, x, m, z, el)
 
         module _ (k y left : ℕ) where
           pub dot_end : n ≤ k → at_actors i p our n j their k y left ≡ at_theirs i p (j + 1)
@@ -173,15 +173,15 @@ module _ (a ours : List ℕ) (na : ℕ) (b theirs : List ℕ) (nb : ℕ) where
           module _ (d : Dot) (z others got : ℕ) (h : k < n) (ed : d ≡ dot_at a (p + 8 + 12 * k)) (up : k + 1 < n → actor_of d < u32_at a (p + 8 + 12 * (k + 1)))
               (w : Walked (dots_at b y left) (dots_at b z others) (actor_of d) got) where
             abbrev ahead_here : List Sight
-            ahead_here = sights our their (dots_at a (p + 8 + 12 * (k + 1)) (n - (k + 1))) (dots_at b z others) ++ (sights_beside (row_at a p) (map (row_at b) (slice (j + 1) nb theirs)) ++ later i)
+            ahead_here = sights our their (dots_at a (p + 8 + 12 * (k + 1)) (n - (k + 1))) (dots_at b z others) ++ (sights_beside (row_at a p) (map (row_at b) (slice (j + 1) (length theirs) theirs)) ++ later i)
 
-            turn : sights our their (dots_at a (p + 8 + 12 * k) (n - k)) (dots_at b y left) ++ (sights_beside (row_at a p) (map (row_at b) (slice (j + 1) nb theirs)) ++ later i) ≡ sight our their d got ∷ ahead_here
+            turn : sights our their (dots_at a (p + 8 + 12 * k) (n - k)) (dots_at b y left) ++ (sights_beside (row_at a p) (map (row_at b) (slice (j + 1) (length theirs) theirs)) ++ later i) ≡ sight our their d got ∷ ahead_here
             turn =
                 let x : p + 8 + 12 * k + 12 ≡ p + 8 + 12 * (k + 1) = omega arith in
                 let f = along_later a (p + 8 + 12 * (k + 1)) (n - (k + 1)) (actor_of d) (reach dots (actor_of d) (dots_at b y left)) (dots_at b z others) (λ l. up (omega arith)) w.later in
                 rw (list_step dot_at (λ s p. p + 12) a (p + 8 + 12 * k) (n - k) (n - (k + 1)) (omega arith), ← ed, x, f, ← w.counted)
 
-            pub dot_here : reportable our their d.counter got ≡ true → at_actors i p our n j their k y left ≡ spent_is d our their
+            pub dot_here : reportable our their d.counter got ≡ true → at_actors i p our n j their k y left ≡ Err (spent_is d our their)
             unfolding at_actors spotted
             dot_here t = rw (turn, t)
 

@@ -1,5 +1,5 @@
 -- The search in the order of the loops: each of our dots is seen beside their clock, in one walk along both.
-use Rattle.std.specs.Prelude.{ℕ, ◌+◌, ◌*◌, ◌%◌, ◌≤◌, ◌<◌, ◌≡◌, Bool, true, not, ◌&&◌, List, [], ◌∷◌, ◌++◌, map, eqb, length, take, get_or}
+use Rattle.std.specs.Prelude.{ℕ, Result, Ok, Err, ⊤, ◌+◌, ◌*◌, ◌%◌, ◌≤◌, ◌<◌, ◌≡◌, Bool, true, not, ◌&&◌, List, [], ◌∷◌, ◌++◌, map, eqb, length, take, get_or}
 use Rattle.std.proofs.Math.Option.{Option, none, some}
 use Rattle.tables.specs.Table.{pick}
 use Rattle.tables.specs.Zip.{said}
@@ -12,8 +12,8 @@ use Rattle.layout.specs.Rows.{row_at}
 use Rattle.layout.specs.Image.{image_of, good_image}
 use Rattle.layout.specs.Kit.{Stands}
 use Rattle.kills.specs.Lines.{reach, along}
-use Rattle.validating.specs.declared.Validation.{Validation}
-use Rattle.validating.specs.declared.Validation.TheVariants.{Valid, DoubleSpent}
+use Rattle.validating.specs.declared.MergeRefused.{MergeRefused}
+use Rattle.validating.specs.declared.MergeRefused.TheVariants.{DoubleSpent}
 
 -- what is seen at one of our dots: both members, the dot, and how far they count its actor
 pub record Sight : Type 0 where
@@ -51,13 +51,13 @@ abbrev pub sights_of : List Entry → List Entry → List Sight
 sights_of [] ts = []
 sights_of (o ∷ os) ts = sights_beside o ts ++ sights_of os ts
 
-abbrev pub spent_is : Dot → ℕ → ℕ → Validation
+abbrev pub spent_is : Dot → ℕ → ℕ → MergeRefused
 spent_is d our their = DoubleSpent (record { dot = d; our = record { 0 = our }; their = record { 0 = their } })
 
 -- what is answered of the first that is spotted
-abbrev pub verdict : Option Sight → Validation
-verdict none = Valid
-verdict (some s) = spent_is s.dot s.our s.their
+abbrev pub verdict : Option Sight → Result ⊤ MergeRefused
+verdict none = Ok tt
+verdict (some s) = Err (spent_is s.dot s.our s.their)
 
 -- the n entries of a good image stand at places, each with its clock inside the bytes
 pub record Listed (s places : List ℕ) (n : ℕ) : Type 0 where

@@ -1,9 +1,9 @@
 -- What is proved of specs/Handed.antt.
-use Rattle.std.specs.Prelude.{◌≡◌, refl, List, [], ◌∷◌, map, Bool, true, false, ℕ, suc, zero, ◌+◌, ◌-◌, ◌≤◌, ◌<◌, ltb}
+use Rattle.std.specs.Prelude.{◌≡◌, refl, List, [], ◌∷◌, map, true, false, ℕ, suc, zero, ◌+◌, ◌-◌, ◌≤◌, ◌<◌, Some, None}
+use mathlib.Core.Bool.{and-false}
 use Rattle.std.proofs.Common.{ap, ◌∙◌, arith}
-use borrow.Author.Tests.{lt-leb, le-leb, lt-ltb, le-ltb, eq-eqb, ne_eqb}
+use borrow.Author.Tests.{lt-leb, le-leb, lt-ltb, le-ltb}
 use Rattle.std.proofs.Math.ListN.{length}
-use Rattle.tables.specs.Table.{pick}
 use Rattle.layout.specs.Fields.{Bytes, u32_at}
 use Rattle.layout.specs.Lists.{list_at, end_after}
 use Rattle.layout.specs.Clock.{clock_at, clock_end_in, encode_clock}
@@ -20,22 +20,18 @@ row_end_after : (s : List ℕ) (at : ℕ) → at + 8 ≤ row_end s at
 unfolding row_end_in clock_end_in
 row_end_after s at = omega arith
 
-end_past : (s : List ℕ) (at : ℕ) → waits_start_at s ≤ at → end_at s at ≡ 0
+end_past : (s : List ℕ) (at : ℕ) → waits_start_at s ≤ at → end_at s at ≡ None
 unfolding end_at
 end_past s at h = rw (le-ltb at (waits_start_at s) h)
 
-end_outside : (s : List ℕ) (at : ℕ) → length s ≤ at → end_at s at ≡ 0
+end_outside : (s : List ℕ) (at : ℕ) → length s ≤ at → end_at s at ≡ None
 unfolding end_at
-end_outside s at h = let k = row_end_after s at in rw (lt-leb (row_end s at) (length s) (omega arith)) (go (ltb at (waits_start_at s)))
-  where
-    go : (b : Bool) → ◌≡◌ {A = ℕ} (pick b 0 0) 0
-    go true = refl
-    go false = refl
+end_outside s at h = let k = row_end_after s at in simp (lt-leb (row_end s at) (length s) (omega arith), and-false)
 
-none_at : (s : List ℕ) (at n : ℕ) → end_at s at ≡ 0 → handed n s at ≡ []
+none_at : (s : List ℕ) (at n : ℕ) → end_at s at ≡ None → handed n s at ≡ []
 unfolding handed hand_at
 none_at s at zero e = refl
-none_at s at (suc n) e = rw (eq-eqb (end_at s at) 0 e)
+none_at s at (suc n) e = rw e
 
 -- "Begun on an image that isn't well-formed, it hands out none."
 pub bad_none : (s : List ℕ) → good_image s ≡ false → (n : ℕ) → handed n s (start_at s) ≡ []
@@ -48,22 +44,19 @@ ends_after s at zero = omega arith
 ends_after s at (suc n) = let h = ends_after s (row_end s at) n in let k = row_end_after s at in omega arith
 
 module _ (s : List ℕ) (at : ℕ) (b : Bytes s) (low : at < waits_start_at s) (room : row_end s at ≤ length s) where
-  here : end_at s at ≡ row_end s at
+  here : end_at s at ≡ Some (row_end s at)
   unfolding end_at
   here = rw (lt-ltb at (waits_start_at s) low, le-leb (row_end s at) (length s) room)
-
-  some : end_at s at ≡ 0 → ⊥
-  some z = let k = row_end_after s at in omega (arith, here)
 
   clock_part : part_at s at ≡ encode_clock (clock_at s (at + 4))
   unfolding part_at row_end_in
   clock_part =
-      let e : end_at s at - (at + 4) ≡ length (encode_clock (clock_at s (at + 4))) = omega (arith, here, clock_laws.span s (at + 4)) in
-      rw (ne_eqb (end_at s at) 0 some, e) (part_is s (at + 4) (encode_clock (clock_at s (at + 4))) (clock_laws.stands s (at + 4) b room))
+      let e : row_end s at - (at + 4) ≡ length (encode_clock (clock_at s (at + 4))) = omega (arith, clock_laws.span s (at + 4)) in
+      rw (here, e) (part_is s (at + 4) (encode_clock (clock_at s (at + 4))) (clock_laws.stands s (at + 4) b room))
 
   one_step : (n : ℕ) → handed (suc n) s at ≡ handing_of (row_at s at) ∷ handed n s (row_end s at)
   unfolding handed hand_at onward_at row_in
-  one_step n = rw (clock_part, ne_eqb (end_at s at) 0 some, here)
+  one_step n = rw (clock_part, here)
 
 walk_rows : (s : List ℕ) (at low n : ℕ) → Bytes s → good_rows s at low n ≡ true → waits_start_at s ≡ rows_end_at s at n → handed (suc n) s at ≡ map (λ e. handing_of e) (rows_at s at n)
 unfolding list_at end_after

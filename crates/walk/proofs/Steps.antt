@@ -1,22 +1,24 @@
 -- Each test of the code says what the definition does.
-use mathlib.Core.Path.{◌≡◌, refl, sym, ◌∙◌}
-use mathlib.Core.List.{List, []}
-use mathlib.Core.Bool.{Bool, true, false}
-use Prim.Native.Nat.{ℕ, ◌+◌, ◌*◌, ◌-◌, ◌≤◌, ◌<◌}
+use mathlib.Core.Path.{◌≡◌, refl, sym}
+use mathlib.Core.List.{List}
+use mathlib.Core.Bool.{true, false, ◌&&◌}
+use Prim.Native.Nat.{ℕ, ◌+◌, ◌*◌, ◌≤◌, ◌<◌}
 use native.Mathlib.Omega.{arith}
-use borrow.Author.Tests.{lt-leb, le-leb, lt-ltb, le-ltb, leb-true, eq-eqb, ne_eqb}
+use borrow.Author.Tests.{lt-leb, le-leb, lt-ltb, le-ltb, leb-true}
 use lib.Dec.{leb, ltb}
-use lib.ListN.{length, take, drop}
-use Rattle.tables.specs.Table.{pick}
+use lib.ListN.{length}
+use Rattle.std.specs.Prelude.{Option, Some, None}
+use Rattle.dots.specs.declared.Member.{Member}
+use Rattle.dots.specs.Rising.{both_right}
 use Rattle.layout.specs.Fields.{u32_at}
 use Rattle.layout.specs.Clock.{clock_end_in}
 use Rattle.layout.specs.Rows.{row_end, row_end_in}
 use Rattle.layout.specs.Image.{good_image}
-use Rattle.walk.specs.declared.Hand.TheVariants.{One, Nothing}
-use Rattle.walk.specs.Walks.{end_at, start_at, hand_at, part_at, onward_at}
+use Rattle.image.proofs.Whole.{then_told}
+use Rattle.walk.specs.Walks.{end_at, start_at, hand_at, onward_at}
 
 module _ (s : List ℕ) (at : ℕ) where
-  pub end_past : u32_at s 16 ≤ at → 0 ≡ end_at s at
+  pub end_past : u32_at s 16 ≤ at → None ≡ end_at s at
   unfolding end_at
   end_past p = rw (le-ltb at (u32_at s 16) p)
 
@@ -25,58 +27,46 @@ module _ (s : List ℕ) (at : ℕ) where
     unfolding row_end_in clock_end_in
     is_end = rw en
 
-    pub end_room : length s < at + 4 + (4 + 12 * n) → 0 ≡ end_at s at
+    pub end_room : length s < at + 4 + (4 + 12 * n) → None ≡ end_at s at
     unfolding end_at
     end_room r = let r' : length s < row_end s at = rw (← is_end) r in rw (lt-ltb at (u32_at s 16) p, lt-leb (row_end s at) (length s) r')
 
-    pub end_here : at + 4 + (4 + 12 * n) ≤ length s → at + 4 + (4 + 12 * n) ≡ end_at s at
+    pub end_here : at + 4 + (4 + 12 * n) ≤ length s → Some (at + 4 + (4 + 12 * n)) ≡ end_at s at
     unfolding end_at
-    end_here r = let r' : row_end s at ≤ length s = rw (← is_end) r in is_end ∙ sym (rw (lt-ltb at (u32_at s 16) p, le-leb (row_end s at) (length s) r'))
+    end_here r = let r' : row_end s at ≤ length s = rw (← is_end) r in rw (lt-ltb at (u32_at s 16) p, le-leb (row_end s at) (length s) r', is_end)
 
   -- where an entry stands
-  pub record Entry : Type 0 where
-    pub past : at + 8 ≤ end_at s at
-    pub room : end_at s at ≤ length s
+  pub record Entry (end : ℕ) : Type 0 where
+    pub past : at + 8 ≤ end
+    pub room : end ≤ length s
 
-chosen : (b : Bool) (x : ℕ) → (pick b x 0 ≡ 0 → ⊥) → (b ≡ true) × (pick b x 0 ≡ x)
-chosen true x h = (refl, refl)
-chosen false x h = absurd (h refl)
+  pub entry : (end : ℕ) → Some end ≡ end_at s at → Entry end
+  unfolding end_at row_end_in clock_end_in
+  entry end h =
+      let t = then_told (ltb at (u32_at s 16) && leb (row_end s at) (length s)) (row_end s at) end h in
+      let r = leb-true (row_end s at) (length s) (both_right (ltb at (u32_at s 16)) (leb (row_end s at) (length s)) t.0) in
+      record { past = omega arith; room = omega arith }
 
-pub entry : (s : List ℕ) (at : ℕ) → (end_at s at ≡ 0 → ⊥) → Entry s at
-unfolding end_at row_end_in clock_end_in
-entry s at h =
-    let e = row_end s at in
-    let b = leb e (length s) in
-    let c1 = chosen (ltb at (u32_at s 16)) (pick b e 0) h in
-    let c2 = chosen b e (λ z. h (c1.1 ∙ z)) in
-    let r : e ≤ length s = leb-true _ _ c2.0 in
-    let eq : end_at s at ≡ e = c1.1 ∙ c2.1 in
-    record { past = omega arith; room = omega arith }
+-- where no member is handed out, a walk stays; where one is, it goes on, inside the bytes
+pub stays : (s : List ℕ) (at : ℕ) → None ≡ hand_at s at → at ≡ onward_at s at
+unfolding hand_at onward_at
+stays s at h = go (end_at s at) refl
+  where
+    go : (o : Option ℕ) → end_at s at ≡ o → at ≡ onward_at s at
+    go (Some end) f = let k = rw f at h in absurd (cc)
+    go None f = rw f
 
-module _ (s : List ℕ) (at e : ℕ) (eq : e ≡ end_at s at) where
-  pub hand_none : e ≡ 0 → Nothing ≡ hand_at s at
-  unfolding hand_at
-  hand_none h = rw (eq-eqb (end_at s at) 0 (omega arith))
+pub record Moves (s : List ℕ) (at : ℕ) : Type 0 where
+  pub on : at < onward_at s at
+  pub room : onward_at s at ≤ length s
 
-  pub hand_one : (m : ℕ) → (e ≡ 0 → ⊥) → m ≡ u32_at s at → One (record { 0 = m }) ≡ hand_at s at
-  unfolding hand_at
-  hand_one m h em = rw (ne_eqb (end_at s at) 0 (λ z. h (eq ∙ z)), em)
-
-  pub part_none : e ≡ 0 → [] ≡ part_at s at
-  unfolding part_at
-  part_none h = rw (eq-eqb (end_at s at) 0 (omega arith))
-
-  pub part_some : (e ≡ 0 → ⊥) → take (e - (at + 4)) (drop (at + 4) s) ≡ part_at s at
-  unfolding part_at
-  part_some h = rw (ne_eqb (end_at s at) 0 (λ z. h (eq ∙ z)), eq)
-
-  pub onward_none : e ≡ 0 → at ≡ onward_at s at
-  unfolding onward_at
-  onward_none h = rw (eq-eqb (end_at s at) 0 (omega arith))
-
-  pub onward_some : (e ≡ 0 → ⊥) → e ≡ onward_at s at
-  unfolding onward_at
-  onward_some h = rw (ne_eqb (end_at s at) 0 (λ z. h (eq ∙ z)), eq)
+pub moves : (s : List ℕ) (at : ℕ) (m : Member) → Some m ≡ hand_at s at → Moves s at
+unfolding hand_at onward_at
+moves s at m h = go (end_at s at) refl
+  where
+    go : (o : Option ℕ) → end_at s at ≡ o → Moves s at
+    go (Some end) f = let r = entry s at end (sym f) in let g : onward_at s at ≡ end = rw f in record { on = omega arith; room = omega arith }
+    go None f = let k = rw f at h in absurd (cc)
 
 pub start_good : (s : List ℕ) (n : ℕ) → good_image s ≡ true → n ≡ u32_at s 8 → n ≡ start_at s
 unfolding start_at

@@ -1,9 +1,8 @@
 -- What a walk hands out: of a well-formed image exactly its entries, ascending, each with the bytes of its clock; of any other bytes none.
-use Rattle.std.specs.Prelude.{List, [], ◌∷◌, ℕ, suc, zero}
+use Rattle.std.specs.Prelude.{List, [], ◌∷◌, ℕ, suc, zero, Option, Some, None}
 use Rattle.replica.specs.Replica.{Entry}
 use Rattle.layout.specs.Clock.{encode_clock}
-use Rattle.walk.specs.declared.Hand.{Hand}
-use Rattle.walk.specs.declared.Hand.TheVariants.{One, Nothing}
+use Rattle.dots.specs.declared.Member.{Member}
 use Rattle.walk.specs.Walks.{hand_at, part_at, onward_at}
 
 -- a member and the bytes handed out with it
@@ -11,9 +10,9 @@ pub record Handing : Type 0 where
   pub member : ℕ
   pub part : List ℕ
 
-abbrev pub taken : Hand → List ℕ → List Handing → List Handing
-taken (One m) part rest = record { member = m.0; part = part } ∷ rest
-taken Nothing part rest = []
+abbrev pub taken : Option Member → List ℕ → List Handing → List Handing
+taken (Some m) part rest = record { member = m.0; part = part } ∷ rest
+taken None part rest = []
 
 -- all that a walk hands out in n steps
 unfoldable pub handed : ℕ → List ℕ → ℕ → List Handing

@@ -1,38 +1,17 @@
-use Prim.Native.Nat.{ℕ, ◌+◌}
-use mathlib.Core.Path.{◌≡◌, refl, sym, ap, ◌∙◌}
-use mathlib.Core.List.{List}
+use mathlib.Core.Path.{◌≡◌}
+use Prim.Native.Nat.{◌≤◌}
 use native.Mathlib.Omega.{arith}
-use lib.ListN.{length, take, drop}
-use lib.Seq.{sets}
-use Rattle.layout.specs.Rows.{encode_members}
-use Rattle.brought.proofs.Steps.{store_step, store_end, members_none, members_done}
+use lib.ListN.{length, take, length-take}
+use Rattle.fields.proofs.Steps.{of_few}
+use Rattle.brought.specs.Brought.{counted_members}
+use Rattle.brought.proofs.Steps.{few_take}
 use borrow.Author.Rules.{rules}
 use Rattle.brought.proofs.put_members.Goals as goal
 
-pub returns-then-s-at : goal.returns-then-s-at
-returns-then-s-at c =
-    let a = c.args in
-    let long : length a.m.at ≡ 64 = search rules in
-    members_none a.m _ long c.at_most_64-n.ensures.0 _ _ (omega arith)
-
-pub loop-i-init : goal.loop-i-init
-loop-i-init c = (search rules, search rules, refl, refl)
-
-pub loop-i-preserved : goal.loop-i-preserved
-loop-i-preserved c =
-    let l = c.loop-i in
-    let t = c.loop-i-test.true in
-    let k = c.at_most_64-n in
-    let m = k.ensures.1 in
-    let a = c.args in
-    let long : length a.m.at ≡ 64 = search rules in
-    (search rules, search rules, search rules, ap (λ (r : List ℕ). sets r (l.p + 4) (encode_members (drop (l.i + 1) (take k.result a.m.at)))) c.put_u32-in-loop-i.ensures ∙ store_step l.s a.m.at k.result l.p l.i (omega arith) (omega arith) ∙ l.invariant.3)
-
 pub returns : goal.returns
+unfolding counted_members
 returns c =
-    let l = c.loop-i in
     let a = c.args in
-    let k = c.at_most_64-n in
     let long : length a.m.at ≡ 64 = search rules in
-    let w = store_end l.s a.m.at k.result l.p l.i (omega arith) in
-    members_done a.m k.result long k.ensures.0 a.s.now l.s a.at (sym w ∙ l.invariant.3 ∙ ap (λ (r : List ℕ). sets r (a.at + 4) (encode_members (take k.result a.m.at))) c.put_u32.ensures)
+    let short : length (take c.min.result a.m.at) ≤ 64 = simp length-take (let e = c.min.ensures in omega arith) in
+    rw (few_take a.m c.min.result long c.min.ensures) at (of_few _ _ _ _ _ short c.put_members.ensures)

@@ -9,7 +9,7 @@ pub returns-then-s-at : goal.returns-then-s-at
 returns-then-s-at c =
     let a = c.args in
     let long : length a.c.dots ≡ 16 = search rules in
-    row_none _ _ a.c.len _ a.c.dots long c.few.ensures.0 a.member (omega arith)
+    row_none _ _ a.c.len _ a.c.dots long c.min.ensures a.member (omega arith)
 
 pub overflow_add-result-2 : goal.overflow_add-result-2
 overflow_add-result-2 c =

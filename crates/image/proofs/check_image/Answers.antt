@@ -1,12 +1,17 @@
-use Rattle.image.proofs.Link.{image_good}
+use Rattle.image.proofs.Link.{image_good, image_bad, ok_told, err_told}
 use Rattle.image.specs.Image.{check_call}
-use mathlib.Core.Bool.{true, false}
+use Rattle.dots.specs.Answers.{refusal, answer}
+use Rattle.std.proofs.lemmas.Result.{err_from_is_err_and}
+use mathlib.Core.Path.{◌∙◌}
 use Rattle.image.proofs.check_image.Goals as goal
 
-pub returns-then-x : goal.returns-then-x
-unfolding check_call
-returns-then-x c = let r = image_good c.args.img.now c.check-x.result c.check-x.ensures true c.if-x.true in rw r.0
+pub returns-in_err-ok_or : goal.returns-in_err-ok_or
+unfolding check_call answer refusal
+returns-in_err-ok_or c =
+    let p = err_from_is_err_and c.from_residual.result c.from_residual.ensures.1 in
+    let q = err_told _ _ _ c.in_err-ok_or.ensures.value in
+    rw (p.1, p.2, q.1, image_bad c.args.img.now (q.0 ∙ c.check.ensures))
 
-pub returns-else-x : goal.returns-else-x
-unfolding check_call
-returns-else-x c = let r = image_good c.args.img.now c.check-x.result c.check-x.ensures false c.if-x.false in rw r.0
+pub returns : goal.returns
+unfolding check_call answer
+returns c = rw (image_good c.args.img.now _ (ok_told _ _ _ c.in_ok-ok_or.ensures.value ∙ c.check.ensures)).0

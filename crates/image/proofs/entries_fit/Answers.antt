@@ -5,12 +5,8 @@ use Rattle.layout.specs.Fields.{u32_at}
 use lib.ListN.{length}
 use native.Mathlib.Omega.{arith}
 use Prim.Native.Nat.{◌+◌, ◌≤◌}
-use mathlib.Core.Path.{◌≡◌, refl, ◌∙◌}
-use borrow.Author.Rules.{rules}
+use mathlib.Core.Path.{◌≡◌, ◌∙◌}
 use Rattle.image.proofs.entries_fit.Goals as goal
-
-pub loop-i-init : goal.loop-i-init
-loop-i-init c = (search rules, refl)
 
 pub row_fits-requires : goal.row_fits-requires
 unfolding row_end_in clock_end_in
@@ -18,8 +14,8 @@ row_fits-requires c =
     let a = c.args in
     let l = c.loop-i in
     let s = a.s.now in
-    let k : c.index-k.result ≡ u32_at s 24 = c.index-k.ensures.0 ∙ c.u32_at.ensures in
-    let count : c.index-count.result ≡ u32_at s (c.index-at.result + 4) = c.index-count.ensures.0 ∙ c.u32_at-in-loop-i.ensures in
+    let k : c.index-k.result ≡ u32_at s 24 = omega arith in
+    let count : c.index-count.result ≡ u32_at s (c.index-at.result + 4) = omega arith in
     let w = c.requires.1 in
     let room : row_end s c.index-at.result ≤ length s = rw c.index-at.ensures.0 (c.requires.3.each l.i (omega arith)) in
     let line = line_room a.own l.i _ _ (omega arith) c.line_for.ensures c.requires.2 in
@@ -31,26 +27,24 @@ loop-i-preserved c =
     let a = c.args in
     let l = c.loop-i in
     let s = a.s.now in
-    let k : c.index-k.result ≡ u32_at s 24 = c.index-k.ensures.0 ∙ c.u32_at.ensures in
-    let count : c.index-count.result ≡ u32_at s (c.index-at.result + 4) = c.index-count.ensures.0 ∙ c.u32_at-in-loop-i.ensures in
-    let long : length a.places ≡ 64 = let g = c.well_formed in search rules in
+    let k : c.index-k.result ≡ u32_at s 24 = omega arith in
+    let count : c.index-count.result ≡ u32_at s (c.index-at.result + 4) = omega arith in
     let f = rw (k, count) at c.row_fits.ensures in
-    (search rules, all_turn a.lines.now s (clock_at s 24) a.places a.n l.i _ (omega arith) (omega arith) c.index-at.ensures.0 _ a.own _ c.line_for.ensures f c.if-row_fits.true ∙ l.invariant.1)
+    all_turn a.lines.now s (clock_at s 24) a.places.now l.i _ (omega arith) c.index-at.ensures.0 _ a.own _ c.line_for.ensures f c.if-not-row_fits.false ∙ l.invariant
 
-pub returns-else-row_fits : goal.returns-else-row_fits
+pub returns-then-not-row_fits : goal.returns-then-not-row_fits
 unfolding clock_in
-returns-else-row_fits c =
+returns-then-not-row_fits c =
     let a = c.args in
     let l = c.loop-i in
     let s = a.s.now in
-    let k : c.index-k.result ≡ u32_at s 24 = c.index-k.ensures.0 ∙ c.u32_at.ensures in
-    let count : c.index-count.result ≡ u32_at s (c.index-at.result + 4) = c.index-count.ensures.0 ∙ c.u32_at-in-loop-i.ensures in
-    let long : length a.places ≡ 64 = let g = c.well_formed in search rules in
+    let k : c.index-k.result ≡ u32_at s 24 = omega arith in
+    let count : c.index-count.result ≡ u32_at s (c.index-at.result + 4) = omega arith in
     let f = rw (k, count) at c.row_fits.ensures in
-    all_stop a.lines.now s (clock_at s 24) a.places a.n l.i _ (omega arith) (omega arith) c.index-at.ensures.0 _ a.own _ c.line_for.ensures f c.if-row_fits.false ∙ l.invariant.1
+    all_stop a.lines.now s (clock_at s 24) a.places.now l.i _ (omega arith) c.index-at.ensures.0 _ a.own _ c.line_for.ensures f c.if-not-row_fits.true ∙ l.invariant
 
 pub returns : goal.returns
 returns c =
     let a = c.args in
     let l = c.loop-i in
-    all_end a.lines.now a.s.now (clock_at a.s.now 24) a.own a.places a.n l.i (omega arith) ∙ l.invariant.1
+    all_end a.lines.now a.s.now (clock_at a.s.now 24) a.own a.places.now l.i (omega arith) ∙ l.invariant

@@ -1,94 +1,36 @@
-use Rattle.image.proofs.Whole.{clock_some, rows_inside, rows_told, rows_untold, waits_told, waits_untold, no_contents, no_clock, no_start, no_rows, no_waits_start, no_waiting, no_end, all_parts}
-use Rattle.image.proofs.Steps.{contents_few}
-use Rattle.scan.specs.Scan.{rows_table, waits_table}
-use Rattle.scan.specs.declared.Waits.{Waits}
-use Rattle.scan.specs.declared.Table.{Table}
-use Rattle.layout.proofs.KitFacts.{stands, clock_room}
-use Rattle.layout.specs.Fields.{u32_at}
-use lib.ListN.{length}
-use Prim.Native.Nat.{◌≤◌}
-use mathlib.Core.Path.{◌≡◌, sym, ap, ap₂, ◌∙◌}
+use Rattle.image.proofs.Whole.{no_contents, no_clock, no_start, no_rows, no_waits_start, no_removes, no_end, all_parts}
+use native.Mathlib.Omega.{arith}
+use mathlib.Core.Path.{sym, ◌∙◌}
 use Rattle.image.proofs.parts.Goals as goal
 
-pub returns-then-start-eq0 : goal.returns-then-start-eq0
-returns-then-start-eq0 c = c.no_image.ensures ∙ no_clock c.args.s.now _ c.clock_ends-start.ensures c.if-start-eq0.true
+pub returns-then-not-contents_good : goal.returns-then-not-contents_good
+returns-then-not-contents_good c = no_contents c.args.s.now (sym c.contents_good.ensures.0 ∙ c.if-not-contents_good.true)
+
+pub returns-in_err-start : goal.returns-in_err-start
+returns-in_err-start c = c.from_residual.ensures ∙ no_clock c.args.s.now c.in_err-start.ensures
 
 pub returns-then-index-start : goal.returns-then-index-start
-returns-then-index-start c = c.no_image-then-index-start.ensures ∙ no_start c.args.s.now _ c.clock_ends-start.ensures c.if-start-eq0.false (λ e. c.if-index-start.true (c.index.ensures.0 ∙ c.u32_at.ensures ∙ e))
+returns-then-index-start c =
+    no_start c.args.s.now (sym c.contents_good.ensures.0 ∙ c.if-not-contents_good.false) (c.contents_good.ensures.1 c.if-not-contents_good.false) _ c.in_ok-start.ensures (λ e. omega arith)
 
-pub returns-then-index-t : goal.returns-then-index-t
-returns-then-index-t c =
-    let s = c.args.s.now in
-    let e8 : u32_at s 8 ≡ c.clock_ends-start.result = sym (c.index.ensures.0 ∙ c.u32_at.ensures) ∙ c.if-index-start.false in
-    let e12 : c.index-entries.result ≡ u32_at s 12 = c.index-entries.ensures.0 ∙ c.u32_at-then-contents_good.ensures in
-    let t = c.check_rows-t.result in
-    let et : t ≡ rows_table s (u32_at s 8) (u32_at s 12) = c.check_rows-t.ensures ∙ ap₂ (rows_table s) (sym e8) e12 in
-    let told = rows_told s (u32_at s 8) (u32_at s 12) t et c.if-t.true in
-    c.no_image-then-index-t.ensures ∙ no_waits_start s (λ q. c.if-index-t.true (c.index-then-t.ensures.0 ∙ c.u32_at-then-t.ensures ∙ q ∙ sym (ap (λ (x : Table). x.next) told.1)))
+pub returns-in_err-rows : goal.returns-in_err-rows
+returns-in_err-rows c =
+    c.from_residual-in_err-rows.ensures
+    ∙ no_rows c.args.s.now (sym c.contents_good.ensures.0 ∙ c.if-not-contents_good.false) (c.contents_good.ensures.1 c.if-not-contents_good.false) _ c.in_ok-start.ensures (omega arith) _ (omega arith) c.in_err-rows.ensures
 
-pub returns-then-w-s : goal.returns-then-w-s
-returns-then-w-s c =
-    let s = c.args.s.now in
-    let e8 : u32_at s 8 ≡ c.clock_ends-start.result = sym (c.index.ensures.0 ∙ c.u32_at.ensures) ∙ c.if-index-start.false in
-    let e12 : c.index-entries.result ≡ u32_at s 12 = c.index-entries.ensures.0 ∙ c.u32_at-then-contents_good.ensures in
-    let t = c.check_rows-t.result in
-    let et : t ≡ rows_table s (u32_at s 8) (u32_at s 12) = c.check_rows-t.ensures ∙ ap₂ (rows_table s) (sym e8) e12 in
-    let e16 : u32_at s 16 ≡ t.next = sym (c.index-then-t.ensures.0 ∙ c.u32_at-then-t.ensures) ∙ c.if-index-t.false in
-    let e20 : c.index-waits.result ≡ u32_at s 20 = c.index-waits.ensures.0 ∙ c.u32_at-then-t-2.ensures in
-    let w = c.check_waits-w.result in
-    let ew : w ≡ waits_table s (u32_at s 16) (u32_at s 20) = c.check_waits-w.ensures ∙ ap₂ (waits_table s) (sym e16) e20 in
-    let wt = waits_told s (u32_at s 16) (u32_at s 20) w ew c.if-w.true in
-    c.no_image-then-w-s.ensures ∙ no_end s (λ q. c.if-w-s.true (ap (λ (x : Waits). x.next) wt.1 ∙ q))
+pub returns-then-index-rows : goal.returns-then-index-rows
+returns-then-index-rows c =
+    no_waits_start c.args.s.now (sym c.contents_good.ensures.0 ∙ c.if-not-contents_good.false) (c.contents_good.ensures.1 c.if-not-contents_good.false) _ c.in_ok-start.ensures (omega arith) _ (omega arith) _ c.in_ok-rows.ensures (λ e. omega arith)
 
-pub returns-else-w-s : goal.returns-else-w-s
-returns-else-w-s c =
-    let s = c.args.s.now in
-    let e8 : u32_at s 8 ≡ c.clock_ends-start.result = sym (c.index.ensures.0 ∙ c.u32_at.ensures) ∙ c.if-index-start.false in
-    let e12 : c.index-entries.result ≡ u32_at s 12 = c.index-entries.ensures.0 ∙ c.u32_at-then-contents_good.ensures in
-    let t = c.check_rows-t.result in
-    let et : t ≡ rows_table s (u32_at s 8) (u32_at s 12) = c.check_rows-t.ensures ∙ ap₂ (rows_table s) (sym e8) e12 in
-    let told = rows_told s (u32_at s 8) (u32_at s 12) t et c.if-t.true in
-    let e16 : u32_at s 16 ≡ t.next = sym (c.index-then-t.ensures.0 ∙ c.u32_at-then-t.ensures) ∙ c.if-index-t.false in
-    let e20 : c.index-waits.result ≡ u32_at s 20 = c.index-waits.ensures.0 ∙ c.u32_at-then-t-2.ensures in
-    let w = c.check_waits-w.result in
-    let ew : w ≡ waits_table s (u32_at s 16) (u32_at s 20) = c.check_waits-w.ensures ∙ ap₂ (waits_table s) (sym e16) e20 in
-    let wt = waits_told s (u32_at s 16) (u32_at s 20) w ew c.if-w.true in
-    let ck = clock_some s 24 _ c.clock_ends-start.ensures c.if-start-eq0.false in
-    all_parts s (sym c.contents_good.ensures.0 ∙ c.if-contents_good.true) ck.0 (e8 ∙ ck.1) told.0 (e16 ∙ ap (λ (x : Table). x.next) told.1) wt.0 (sym (ap (λ (x : Waits). x.next) wt.1) ∙ c.if-w-s.false) _ _ _ t w c.clock_at-clock.ensures e12 e20 told.1 wt.1
+pub returns-in_err-removes : goal.returns-in_err-removes
+returns-in_err-removes c =
+    c.from_residual-in_err-removes.ensures
+    ∙ no_removes c.args.s.now (sym c.contents_good.ensures.0 ∙ c.if-not-contents_good.false) (c.contents_good.ensures.1 c.if-not-contents_good.false) _ c.in_ok-start.ensures (omega arith) _ (omega arith) _ c.in_ok-rows.ensures (omega arith) _ (omega arith) c.in_err-removes.ensures
 
-pub returns-else-w : goal.returns-else-w
-returns-else-w c =
-    let s = c.args.s.now in
-    let e8 : u32_at s 8 ≡ c.clock_ends-start.result = sym (c.index.ensures.0 ∙ c.u32_at.ensures) ∙ c.if-index-start.false in
-    let e12 : c.index-entries.result ≡ u32_at s 12 = c.index-entries.ensures.0 ∙ c.u32_at-then-contents_good.ensures in
-    let t = c.check_rows-t.result in
-    let et : t ≡ rows_table s (u32_at s 8) (u32_at s 12) = c.check_rows-t.ensures ∙ ap₂ (rows_table s) (sym e8) e12 in
-    let told = rows_told s (u32_at s 8) (u32_at s 12) t et c.if-t.true in
-    let e16 : u32_at s 16 ≡ t.next = sym (c.index-then-t.ensures.0 ∙ c.u32_at-then-t.ensures) ∙ c.if-index-t.false in
-    let e20 : c.index-waits.result ≡ u32_at s 20 = c.index-waits.ensures.0 ∙ c.u32_at-then-t-2.ensures in
-    let w = c.check_waits-w.result in
-    let ew : w ≡ waits_table s (u32_at s 16) (u32_at s 20) = c.check_waits-w.ensures ∙ ap₂ (waits_table s) (sym e16) e20 in
-    let fc = contents_few s (sym c.contents_good.ensures.0 ∙ c.if-contents_good.true) in
-    let hl = c.contents_good.ensures.1 c.if-contents_good.true in
-    let ck = clock_some s 24 _ c.clock_ends-start.ensures c.if-start-eq0.false in
-    let room = clock_room s 24 (stands s 24 ck.0) in
-    let ha : u32_at s 8 ≤ length s = rw (e8 ∙ ck.1) room in
-    let hb : u32_at s 16 ≤ length s = rw (e16 ∙ ap (λ (x : Table). x.next) told.1) (rows_inside s (u32_at s 8) 0 (u32_at s 12) ha told.0) in
-    c.no_image-else-w.ensures ∙ no_waiting s (waits_untold s (u32_at s 16) (u32_at s 20) hl hb w fc.1 ew c.if-w.false)
+pub returns-then-removes-s : goal.returns-then-removes-s
+returns-then-removes-s c =
+    no_end c.args.s.now (sym c.contents_good.ensures.0 ∙ c.if-not-contents_good.false) (c.contents_good.ensures.1 c.if-not-contents_good.false) _ c.in_ok-start.ensures (omega arith) _ (omega arith) _ c.in_ok-rows.ensures (omega arith) _ (omega arith) _ c.in_ok-removes.ensures (λ e. omega arith)
 
-pub returns-else-t : goal.returns-else-t
-returns-else-t c =
-    let s = c.args.s.now in
-    let e8 : u32_at s 8 ≡ c.clock_ends-start.result = sym (c.index.ensures.0 ∙ c.u32_at.ensures) ∙ c.if-index-start.false in
-    let e12 : c.index-entries.result ≡ u32_at s 12 = c.index-entries.ensures.0 ∙ c.u32_at-then-contents_good.ensures in
-    let t = c.check_rows-t.result in
-    let et : t ≡ rows_table s (u32_at s 8) (u32_at s 12) = c.check_rows-t.ensures ∙ ap₂ (rows_table s) (sym e8) e12 in
-    let fc = contents_few s (sym c.contents_good.ensures.0 ∙ c.if-contents_good.true) in
-    let hl = c.contents_good.ensures.1 c.if-contents_good.true in
-    let ck = clock_some s 24 _ c.clock_ends-start.ensures c.if-start-eq0.false in
-    let room = clock_room s 24 (stands s 24 ck.0) in
-    let ha : u32_at s 8 ≤ length s = rw (e8 ∙ ck.1) room in
-    c.no_image-else-t.ensures ∙ no_rows s (rows_untold s (u32_at s 8) (u32_at s 12) hl ha t fc.0 et c.if-t.false)
-
-pub returns-else-contents_good : goal.returns-else-contents_good
-returns-else-contents_good c = c.no_image-else-contents_good.ensures ∙ no_contents c.args.s.now (sym c.contents_good.ensures.0 ∙ c.if-contents_good.false)
+pub returns : goal.returns
+returns c =
+    all_parts c.args.s.now (sym c.contents_good.ensures.0 ∙ c.if-not-contents_good.false) (c.contents_good.ensures.1 c.if-not-contents_good.false) _ c.in_ok-start.ensures (omega arith) _ (omega arith) _ c.in_ok-rows.ensures (omega arith) _ (omega arith) _ c.in_ok-removes.ensures (omega arith) _ c.clock_at-clock.ensures

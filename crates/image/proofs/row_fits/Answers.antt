@@ -1,36 +1,39 @@
-use Rattle.image.proofs.Steps.{row_end_is, row_left, row_refused, row_turn}
+use Rattle.image.proofs.Steps.{row_end_is, row_done, row_refused, row_taken, row_other}
 use native.Mathlib.Omega.{arith}
 use native.Mathlib.Nat.{add-zero, sub-zero}
 use mathlib.Core.Path.{◌≡◌, ◌∙◌}
-use borrow.Author.Rules.{rules}
+use Rattle.image.proofs.row_fits.Goals.{in-Another, in-Within}
 use Rattle.image.proofs.row_fits.Goals as goal
 
 pub returns-then-count-k : goal.returns-then-count-k
 returns-then-count-k c = let a = c.args in let e : a.count ≡ a.k = omega arith in rw e c.in_step.ensures
 
-pub loop-left-init : goal.loop-left-init
-loop-left-init c = (omega arith, search rules, simp (add-zero, sub-zero))
+pub loop-j-init : goal.loop-j-init
+loop-j-init c = (omega arith, simp (add-zero, sub-zero))
 
-pub returns-then-k-j : goal.returns-then-k-j
-returns-then-k-j c =
+pub returns-then-left-eq0 : goal.returns-then-left-eq0
+returns-then-left-eq0 c =
     let a = c.args in
-    let l = c.loop-left in
-    row_left a.lines.now a.s.now a.line a.k l.j l.p l.left (omega arith) (omega arith) ∙ l.invariant.2
+    let l = c.loop-j in
+    row_end_is a.lines.now a.s.now a.line a.k l.j l.p l.left (omega arith) ∙ l.invariant.1
 
-pub returns-then-one-eq2 : goal.returns-then-one-eq2
-returns-then-one-eq2 c =
+pub returns-in-Outside : goal.returns-in-Outside
+returns-in-Outside c =
     let a = c.args in
-    let l = c.loop-left in
-    row_refused a.lines.now a.s.now a.line a.k l.j l.p l.left _ (omega arith) (omega arith) c.met-one.ensures.0 c.met-one.ensures.1 (omega arith) ∙ l.invariant.2
+    let l = c.loop-j in
+    row_refused a.lines.now a.s.now a.line a.k l.j l.p l.left _ (omega arith) (omega arith) c.met.ensures c.in-Outside.is ∙ l.invariant.1
 
-pub loop-left-preserved : goal.loop-left-preserved
-loop-left-preserved c =
+pub loop-j-preserved : goal.loop-j-preserved
+loop-j-preserved c =
     let a = c.args in
-    let l = c.loop-left in
-    (search rules, search rules, row_turn a.lines.now a.s.now a.line a.k l.j l.p l.left _ (omega arith) (omega arith) c.met-one.ensures.0 c.met-one.ensures.1 (λ z. omega arith) ∙ l.invariant.2)
+    let l = c.loop-j in
+    elim c.match-met.branch [
+      | in-Another w ↦ rw (w.p-is, w.left-is) (omega arith, row_other a.lines.now a.s.now a.line a.k l.j l.p l.left _ (omega arith) (omega arith) c.met.ensures w.in-Another.is ∙ l.invariant.1)
+      | in-Within w ↦ rw (w.p-is, w.left-is) (omega arith, row_taken a.lines.now a.s.now a.line a.k l.j l.p l.left _ (omega arith) (omega arith) c.met.ensures w.in-Within.is ∙ l.invariant.1)
+    ]
 
 pub returns : goal.returns
 returns c =
     let a = c.args in
-    let l = c.loop-left in
-    row_end_is a.lines.now a.s.now a.line a.k l.j l.p l.left (omega arith) ∙ l.invariant.2
+    let l = c.loop-j in
+    row_done a.lines.now a.s.now a.line a.k l.j l.p l.left (omega arith) ∙ l.invariant.1

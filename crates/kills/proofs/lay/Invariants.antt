@@ -1,11 +1,8 @@
 use Rattle.kills.specs.Lines.{spread}
 use lib.Seq.{sets}
-use Prim.Native.Nat.{◌*◌, ◌-◌, ◌≤◌}
+use Prim.Native.Nat.{◌*◌, ◌-◌}
 use mathlib.Core.Path.{◌≡◌}
 use Rattle.kills.proofs.lay.Given as goal
 
 abbrev pub invariant-loop-i : goal.invariant-loop-i
-invariant-loop-i l = (l.i ≤ l.n) × (sets l.out (16 * l.i) (spread (l.n - l.i) l.floor) ≡ sets l.initial.out 0 (spread l.n l.floor))
-
-abbrev pub decreases-loop-i : goal.decreases-loop-i
-decreases-loop-i l = l.n - l.i
+invariant-loop-i l = sets l.out (16 * l.i) (spread (l.n - l.i) l.floor) ≡ sets l.initial.out 0 (spread l.n l.floor)

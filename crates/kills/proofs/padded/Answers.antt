@@ -1,18 +1,10 @@
-use Rattle.kills.proofs.Steps.{filled_start, filled_turn, filled_short}
-use lib.ListN.{length-set}
+use Rattle.kills.proofs.Steps.{padded_part, padded_none}
 use native.Mathlib.Omega.{arith}
 use mathlib.Core.Path.{refl}
-use borrow.Author.Rules.{rules}
 use Rattle.kills.proofs.padded.Goals as goal
 
-pub loop-i-init : goal.loop-i-init
-loop-i-init c = (search rules, refl, filled_start _ _ 192)
+pub returns-then-n-gt0 : goal.returns-then-n-gt0
+returns-then-n-gt0 c = padded_part c.args.t.now _ _ c.args.from c.min-n.result (rw (c.min-n.ensures, c.saturating_sub.ensures)) c.copy_from_slice.ensures.after refl
 
-pub returns-then-t-from : goal.returns-then-t-from
-returns-then-t-from c = let l = c.loop-i in filled_short _ _ l.i _ (omega arith) l.invariant.2
-
-pub loop-i-preserved : goal.loop-i-preserved
-loop-i-preserved c = let l = c.loop-i in (search rules, simp length-set (omega arith), filled_turn _ _ l.i _ (omega arith) l.invariant.2)
-
-pub returns : goal.returns
-returns c = let l = c.loop-i in record { same = λ j h. l.invariant.2.low j (omega arith) }
+pub returns-else-n-gt0 : goal.returns-else-n-gt0
+returns-else-n-gt0 c = padded_none c.args.t.now _ c.args.from (let a = c.min-n.ensures in let b = c.saturating_sub.ensures in let h = c.if-n-gt0.false in omega arith) refl

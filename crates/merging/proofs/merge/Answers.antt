@@ -1,32 +1,39 @@
-use Prim.Native.Nat.{ℕ, ◌≤◌}
+use Prim.Native.Nat.{ℕ}
+use mathlib.Core.Path.{◌≡◌, sym}
 use lib.ListN.{length-replicate}
-use Rattle.merging.proofs.Merges.{first_bad, second_bad, clock_crowded, clock_merged, merge_ready, merge_meets}
-use native.Mathlib.Omega.{arith}
+use Rattle.std.specs.Prelude.{Some}
+use Rattle.std.proofs.lemmas.Result.{err_from_is_err_and}
+use Rattle.image.specs.Image.{check_image}
+use Rattle.merging.proofs.Results.{unread}
+use Rattle.merging.proofs.Merges.{first_bad, second_bad, clock_crowded, merge_ready, merge_meets}
 use Rattle.merging.proofs.merge.Goals as goal
-use Rattle.merging.proofs.merge.Goals.{Else-m-ne0}
+use Rattle.merging.proofs.merge.Goals.{In_ok-x, In_ok-y, In_ok-v}
 
-few : (c : Else-m-ne0) → c.merge-m.result.clock.len ≤ 16
-few c = (clock_merged _ _ c.check-x.ensures c.if-x.true _ _ c.check-y.ensures c.if-y.true _ c.merge-m.ensures c.if-m-ne0.false).few
+first : (c : In_ok-x) → Some c.in_ok-x.x ≡ check_image c.args.a.now
+first c = sym (rw c.check.ensures at c.in_ok-x.ensures.ok_part)
 
-pub returns-then-m-ne0 : goal.returns-then-m-ne0
-returns-then-m-ne0 c = clock_crowded _ _ c.check-x.ensures c.if-x.true _ _ c.check-y.ensures c.if-y.true _ c.merge-m.ensures c.if-m-ne0.true _ _ c.refused.ensures
+second : (c : In_ok-y) → Some c.in_ok-y.y ≡ check_image c.args.b.now
+second c = sym (rw c.check-2.ensures at c.in_ok-y.ensures.ok_part)
 
-pub overflow_mul-v : goal.overflow_mul-v
-overflow_mul-v c = let f = few (goal.at.overflow_mul-v c).Else-m-ne0 in omega arith
+pub returns-in_err-x : goal.returns-in_err-x
+returns-in_err-x c =
+    let p = err_from_is_err_and c.from_residual.result c.from_residual.ensures.1 in
+    rw (p.1, p.2, unread _ _ c.in_err-x.ensures.ok_part c.in_err-x.ensures.value) (first_bad _ _ _ (sym (rw c.check.ensures at c.in_err-x.ensures.ok_part)))
 
-pub overflow_add-v : goal.overflow_add-v
-overflow_add-v c = let f = few (goal.at.overflow_add-v c).Else-m-ne0 in omega arith
+pub returns-in_err-y : goal.returns-in_err-y
+returns-in_err-y c =
+    let p = err_from_is_err_and c.from_residual-in_err-y.result c.from_residual-in_err-y.ensures.1 in
+    rw (p.1, p.2, unread _ _ c.in_err-y.ensures.ok_part c.in_err-y.ensures.value) (second_bad _ _ _ _ (first (goal.at.returns-in_err-y c).In_ok-x) (sym (rw c.check-2.ensures at c.in_err-y.ensures.ok_part)))
+
+pub returns-in_err-v : goal.returns-in_err-v
+returns-in_err-v c =
+    let p = err_from_is_err_and c.from_residual-in_err-v.result c.from_residual-in_err-v.ensures.1 in
+    rw (p.1, p.2) (clock_crowded _ _ (first (goal.at.returns-in_err-v c).In_ok-x) _ _ (second (goal.at.returns-in_err-v c).In_ok-y) _ c.in_err-v.ensures _)
 
 pub drafted-d-requires : goal.drafted-d-requires
-drafted-d-requires c = merge_ready _ _ c.check-x.ensures c.if-x.true _ _ c.check-y.ensures c.if-y.true _ c.merge-m.ensures c.if-m-ne0.false
+drafted-d-requires c = merge_ready _ _ (first (goal.at.drafted-d-requires c).In_ok-x) _ _ (second (goal.at.drafted-d-requires c).In_ok-y) _ c.in_ok-v.ensures
 
-pub returns-else-m-ne0 : goal.returns-else-m-ne0
-returns-else-m-ne0 c =
-    merge_meets _ _ c.check-x.ensures c.if-x.true _ _ c.check-y.ensures c.if-y.true _ c.merge-m.ensures c.if-m-ne0.false
+pub returns : goal.returns
+returns c =
+    merge_meets _ _ (first (goal.at.returns c).In_ok-x) _ _ (second (goal.at.returns c).In_ok-y) _ c.in_ok-v.ensures
     _ _ _ _ _ _ (length-replicate {A = ℕ} 18268 0) c.drafted-d.ensures c.finish.ensures
-
-pub returns-else-y : goal.returns-else-y
-returns-else-y c = second_bad _ _ c.check-x.ensures _ _ _ c.if-x.true _ c.check-y.ensures c.if-y.false c.refused-else-y.ensures
-
-pub returns-else-x : goal.returns-else-x
-returns-else-x c = first_bad _ _ c.check-x.ensures _ _ _ c.if-x.false c.refused-else-x.ensures

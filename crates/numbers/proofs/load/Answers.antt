@@ -1,7 +1,8 @@
 use Rattle.layout.specs.Fields.{u32_at}
-use borrow.Author.Rules.{rules}
+use native.Mathlib.Omega.{arith}
+use mathlib.Core.Path.{◌∙◌}
 use Rattle.numbers.proofs.load.Goals as goal
 
 pub returns : goal.returns
 unfolding u32_at
-returns c = search rules
+returns c = c.from_le_bytes.ensures ∙ omega arith

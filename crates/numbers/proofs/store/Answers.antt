@@ -1,18 +1,8 @@
-use native.Mathlib.Numerals.{add-one, add-two, add-three}
-use native.Mathlib.Omega.{arith}
-use lib.ListN.{length-set}
+use mathlib.Core.Path.{◌∙◌, refl}
 use Rattle.layout.specs.Fields.{le32}
+use Rattle.numbers.proofs.Edge.{part_set}
 use Rattle.numbers.proofs.store.Goals as goal
-
-pub bounds-s-at-2 : goal.bounds-s-at-2
-bounds-s-at-2 c = simp length-set (omega arith)
-
-pub bounds-s-at-3 : goal.bounds-s-at-3
-bounds-s-at-3 c = simp length-set (omega arith)
-
-pub bounds-s-at-4 : goal.bounds-s-at-4
-bounds-s-at-4 c = simp length-set (omega arith)
 
 pub returns : goal.returns
 unfolding le32
-returns c = simp (add-one, add-two, add-three)
+returns c = let b = c.copy_from_slice.ensures.after ∙ c.to_le_bytes.ensures in rw b (part_set c.args.s.now (le32 c.args.v) c.args.at refl c.requires)

@@ -1,45 +1,33 @@
-use mathlib.Core.Path.{◌≡◌, refl}
 use native.Mathlib.Omega.{arith}
-use lib.ListN.{length, get_or}
+use lib.ListN.{get_or, drop_of_length-le}
 use borrow.Author.Tests.{lt-ltb, le-ltb, lt-leb, le-leb}
 use Rattle.dots.specs.Dot.{no_dot}
 use Rattle.dots.specs.Rising.{rising}
-use Rattle.places.proofs.Steps.{ahead, done, mapped}
-use borrow.Author.Rules.{rules}
+use Rattle.places.proofs.Steps.{rest}
 use Rattle.places.proofs.ascending.Goals as goal
-
-pub loop-i-init : goal.loop-i-init
-loop-i-init c = (search rules, refl)
+use Rattle.places.proofs.ascending.Goals.{then-a-low-via-then-a-low, then-a-low-via-else-a-low+then-d-eq0}
 
 pub returns-then-a-low : goal.returns-then-a-low
 unfolding rising
 returns-then-a-low c =
-    let k = c in
-    let s = k.args.dots in
-    let long : length s ≡ 16 = search mapped in
-    let d = get_or s k.loop-i.i no_dot in
-    simp (ahead s k.loop-i.i k.args.n no_dot (omega arith) (omega arith), lt-leb k.loop-i.low d.actor.0 (omega arith)) at k.loop-i.invariant.1
+    let s = c.args.dots.now in
+    let i = c.loop-d.d-index in
+    let d = get_or s i no_dot in
+    let low = c.loop-d.low in
+    elim c.then-a-low.branch [
+      | then-a-low-via-then-a-low w ↦ simp (rest s i no_dot (omega arith), lt-leb low d.actor.0 (omega arith)) at c.loop-d.invariant
+      | then-a-low-via-else-a-low+then-d-eq0 w ↦ simp (rest s i no_dot (omega arith), le-leb low d.actor.0 (omega arith), le-ltb 0 d.counter (omega arith)) at c.loop-d.invariant
+    ]
 
-pub returns-then-d-eq0 : goal.returns-then-d-eq0
+pub loop-d-preserved : goal.loop-d-preserved
 unfolding rising
-returns-then-d-eq0 c =
-    let k = c in
-    let s = k.args.dots in
-    let long : length s ≡ 16 = search mapped in
-    let d = get_or s k.loop-i.i no_dot in
-    simp (ahead s k.loop-i.i k.args.n no_dot (omega arith) (omega arith), le-leb k.loop-i.low d.actor.0 (omega arith), le-ltb 0 d.counter (omega arith)) at k.loop-i.invariant.1
-
-pub loop-i-preserved : goal.loop-i-preserved
-unfolding rising
-loop-i-preserved c =
-    let k = c in
-    let s = k.args.dots in
-    let long : length s ≡ 16 = search mapped in
-    let d = get_or s k.loop-i.i no_dot in
-    (search rules, rw c.wide-a.ensures.0 (simp (ahead s k.loop-i.i k.args.n no_dot (omega arith) (omega arith), le-leb k.loop-i.low d.actor.0 (omega arith), lt-ltb 0 d.counter (omega arith)) at k.loop-i.invariant.1))
+loop-d-preserved c =
+    let s = c.args.dots.now in
+    let i = c.loop-d.d-index in
+    let d = get_or s i no_dot in
+    let low = c.loop-d.low in
+    rw c.from-a.ensures (simp (rest s i no_dot (omega arith), le-leb low d.actor.0 (omega arith), lt-ltb 0 d.counter (omega arith)) at c.loop-d.invariant)
 
 pub returns : goal.returns
 unfolding rising
-returns c =
-    let s = c.args.dots in
-    simp (done s c.loop-i.i c.args.n c.loop-i-test.false) at c.loop-i.invariant.1
+returns c = simp (drop_of_length-le c.args.dots.now {i = c.loop-d.d-index} (omega arith)) at c.loop-d.invariant

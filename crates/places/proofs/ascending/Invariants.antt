@@ -1,12 +1,7 @@
-use Prim.Native.Nat.{◌≤◌, ◌-◌}
 use mathlib.Core.Path.{◌≡◌}
-use lib.ListN.{take}
-use lib.Seq.{slice}
+use lib.ListN.{drop}
 use Rattle.dots.specs.Rising.{rising}
 use Rattle.places.proofs.ascending.Given as goal
 
-abbrev pub invariant-loop-i : goal.invariant-loop-i
-invariant-loop-i l = (l.i ≤ l.n) × (rising l.low (slice l.i l.n l.dots) ≡ rising 0 (take l.n l.dots))
-
-abbrev pub decreases-loop-i : goal.decreases-loop-i
-decreases-loop-i l = l.n - l.i
+abbrev pub invariant-loop-d : goal.invariant-loop-d
+invariant-loop-d l = rising l.low (drop l.d-index l.dots) ≡ rising 0 l.dots

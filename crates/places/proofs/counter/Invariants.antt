@@ -1,12 +1,7 @@
-use Prim.Native.Nat.{◌≤◌, ◌-◌}
 use mathlib.Core.Path.{◌≡◌}
-use lib.ListN.{take}
-use lib.Seq.{slice}
+use lib.ListN.{drop}
 use Rattle.dots.specs.Clock.{count}
 use Rattle.places.proofs.counter.Given as goal
 
-abbrev pub invariant-loop-i : goal.invariant-loop-i
-invariant-loop-i l = (l.len ≤ 16) × (l.i ≤ l.len) × (count (slice l.i l.len l.dots) l.a ≡ count (take l.n l.dots) l.a)
-
-abbrev pub decreases-loop-i : goal.decreases-loop-i
-decreases-loop-i l = l.len - l.i
+abbrev pub invariant-loop-d : goal.invariant-loop-d
+invariant-loop-d l = count (drop l.d-index l.d-items) l.a ≡ count l.d-items l.a

@@ -5,8 +5,5 @@ use Rattle.replies.proofs.Clocks.{clock_bytes}
 use borrow.Author.Rules.{rules}
 use Rattle.replies.proofs.bytes_of.Goals as goal
 
-pub returns-then-c-lt16 : goal.returns-then-c-lt16
-returns-then-c-lt16 c = let l : length c.args.c.dots ≡ 16 = search rules in let b = clock_bytes c.args.c l in omega arith
-
-pub returns-else-c-lt16 : goal.returns-else-c-lt16
-returns-else-c-lt16 c = let l : length c.args.c.dots ≡ 16 = search rules in let b = clock_bytes c.args.c l in omega arith
+pub returns : goal.returns
+returns c = let l : length c.args.c.dots ≡ 16 = search rules in let b = clock_bytes c.args.c l in omega (arith, c.min.ensures)

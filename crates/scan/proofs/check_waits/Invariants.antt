@@ -11,10 +11,7 @@ use Rattle.scan.proofs.check_waits.Given as goal
 
 abbrev pub invariant-loop-i : goal.invariant-loop-i
 invariant-loop-i l =
-    (l.i ≤ l.count) × (l.p ≤ length l.s) × (l.last ≤ length l.s) × DotsIn l.s l.last × (length l.places ≡ 16)
+    (l.p ≤ length l.s) × (l.last ≤ length l.s) × DotsIn l.s l.last × (length l.places ≡ 16)
     × (good_waits l.s l.p (clock_at l.s l.last) (l.count - l.i) ≡ good_waits l.s l.at [] l.count)
     × (waits_end_at l.s l.p (l.count - l.i) ≡ waits_end_at l.s l.at l.count)
     × (sets l.places l.i (wait_places_at l.s l.p (l.count - l.i)) ≡ sets l.initial.places 0 (wait_places_at l.s l.at l.count))
-
-abbrev pub decreases-loop-i : goal.decreases-loop-i
-decreases-loop-i l = l.count - l.i

@@ -1,4 +1,4 @@
-use Rattle.scan.proofs.Steps.{u32_of_part}
+use Rattle.fields.proofs.Parts.{u32_of_part}
 use mathlib.Core.Path.{◌∙◌}
 use Rattle.scan.proofs.u32_in.Goals as goal
 

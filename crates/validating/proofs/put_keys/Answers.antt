@@ -1,21 +1,17 @@
-use mathlib.Core.Path.{refl, sym, ◌∙◌}
+use mathlib.Core.Path.{sym, ◌∙◌}
 use native.Mathlib.Omega.{arith}
 use lib.ListN.{length-set}
 use Rattle.validating.proofs.Steps.{keys_turn, keys_end, keys_start}
-use borrow.Author.Rules.{rules}
 use Rattle.validating.proofs.put_keys.Goals as goal
-
-pub loop-k-init : goal.loop-k-init
-loop-k-init c = (search rules, omega (arith, c.dots_of-ahead.ensures, c.requires.0), refl, refl)
 
 pub loop-k-preserved : goal.loop-k-preserved
 loop-k-preserved c =
     let z = c.requires in
     let v = c.loop-k.invariant in
     let w = c.walk_past-ahead.ensures in
-    (search rules, omega (arith, v.1, w.1), simp length-set v.2, keys_turn _ _ _ _ _ _ _ _ _ _ _ _ _ _ (omega arith) z.2 c.u32_in.ensures w.0 c.key.ensures ∙ v.3)
+    (omega (arith, v.0, w.1), simp length-set v.1, keys_turn _ _ _ _ _ _ _ _ _ _ _ _ _ _ (omega arith) z.2 c.u32_in.ensures w.0 c.key.ensures ∙ v.2)
 
 pub returns : goal.returns
 returns c =
     let v = c.loop-k.invariant in
-    sym (keys_end _ _ _ _ _ _ _ _ _ (omega arith)) ∙ v.3 ∙ keys_start _ _ _ _ _ _ _ _ _ c.dots_of-ahead.ensures.0 c.dots_of-ahead.ensures.1
+    sym (keys_end _ _ _ _ _ _ _ _ _ (omega arith)) ∙ v.2 ∙ keys_start _ _ _ _ _ _ _ _ _ c.dots_of-ahead.ensures.0 c.dots_of-ahead.ensures.1

@@ -1,10 +1,6 @@
-use Prim.Native.Nat.{◌-◌, ◌≤◌}
 use Rattle.layout.specs.Clock.{dots_at}
 use Rattle.validating.specs.Search.{Keyed}
 use Rattle.validating.proofs.put_lines.Given as goal
 
 abbrev pub invariant-loop-j : goal.invariant-loop-j
-invariant-loop-j l = (l.j ≤ l.n) × Keyed (dots_at l.v 28 l.m) l.s l.places l.out l.j l.m
-
-abbrev pub decreases-loop-j : goal.decreases-loop-j
-decreases-loop-j l = l.n - l.j
+invariant-loop-j l = Keyed (dots_at l.v 28 l.m) l.s l.places l.out l.j l.m

@@ -1,23 +1,14 @@
-use Rattle.tables.specs.Refusal.{first_of}
-use Rattle.clocks.specs.VClock.{swapped}
-use Rattle.clocks.specs.Calls.{concurrent_call, truth_answer}
-use Rattle.clocks.proofs.Steps.{so}
+use Rattle.std.proofs.lemmas.Result.{err_from_is_err_and}
+use Rattle.clocks.specs.Calls.{compare_call, concurrent_call}
+use Rattle.clocks.proofs.Answers.{is_fit, still_ok, still_err, concurrent_says}
 use Rattle.clocks.proofs.VClock.concurrent.Goals as goal
 
-pub returns-then-not-both_normalised : goal.returns-then-not-both_normalised
-unfolding concurrent_call truth_answer first_of
-returns-then-not-both_normalised c = simp (so c.both_normalised.ensures c.if-not-both_normalised.true)
+pub returns-in_err-compare : goal.returns-in_err-compare
+unfolding compare_call concurrent_call
+returns-in_err-compare c = let p = err_from_is_err_and c.from_residual.result c.from_residual.ensures.1 in rw (p.1, p.2) (still_err _ _ _ c.in_err-compare.ensures)
 
-pub covers-requires : goal.covers-requires
-covers-requires c = so c.both_normalised.ensures c.if-not-both_normalised.false
-
-pub covers-requires-else-covers : goal.covers-requires-else-covers
-covers-requires-else-covers c = swapped _ _ (so c.both_normalised.ensures c.if-not-both_normalised.false)
-
-pub returns-then-covers : goal.returns-then-covers
-unfolding concurrent_call truth_answer first_of
-returns-then-covers c = simp (so c.both_normalised.ensures c.if-not-both_normalised.false, so c.covers.ensures c.if-covers.true)
-
-pub returns-else-covers : goal.returns-else-covers
-unfolding concurrent_call truth_answer first_of
-returns-else-covers c = simp (so c.both_normalised.ensures c.if-not-both_normalised.false, so c.covers.ensures c.if-covers.false, c.covers-else-covers.ensures)
+pub returns : goal.returns
+unfolding compare_call concurrent_call
+returns c =
+    let f = is_fit _ _ c.in_ok-compare.ensures in
+    rw (concurrent_says _ _ _ _ f.1 c.is_none.ensures) (still_ok _ _ _ c.in_ok-compare.ensures)

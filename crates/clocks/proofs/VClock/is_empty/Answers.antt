@@ -1,23 +1,19 @@
-use mathlib.Core.Path.{◌≡◌}
-use native.Mathlib.Omega.{arith}
-use lib.ListN.{length}
-use Rattle.tables.specs.Refusal.{first_of}
+use Rattle.std.proofs.lemmas.Result.{err_from_is_err_and}
+use Rattle.std.proofs.Common.{◌≡◌, length, arith, rules}
 use Rattle.clocks.specs.VClock.{few}
-use Rattle.clocks.specs.Calls.{empty_call, truth_answer}
-use Rattle.clocks.proofs.Answers.{none_there}
-use Rattle.clocks.proofs.Steps.{so}
-use borrow.Author.Rules.{rules}
+use Rattle.clocks.specs.Calls.{empty_call}
+use Rattle.clocks.proofs.Answers.{is_fit, alone_fit, still_ok, still_err, none_there}
 use Rattle.clocks.proofs.VClock.is_empty.Goals as goal
 
-pub returns-then-is_normalised : goal.returns-then-is_normalised
-unfolding empty_call truth_answer first_of
-returns-then-is_normalised c =
+pub returns-in_err-judged : goal.returns-in_err-judged
+unfolding empty_call
+returns-in_err-judged c = let p = err_from_is_err_and c.from_residual.result c.from_residual.ensures.1 in rw (p.1, p.2) (still_err _ _ _ c.in_err-judged.ensures)
+
+pub returns : goal.returns
+unfolding empty_call
+returns c =
     let s = c.args.self in
     let long : length s.dots ≡ 16 = search rules in
-    let n = so c.is_normalised.ensures c.if-is_normalised.true in
-    let f = few s n in
-    simp (n, none_there s.dots s.len (omega arith))
-
-pub returns-else-is_normalised : goal.returns-else-is_normalised
-unfolding empty_call truth_answer first_of
-returns-else-is_normalised c = simp (so c.is_normalised.ensures c.if-is_normalised.false)
+    let f = is_fit _ _ c.in_ok-judged.ensures in
+    let few_are = few s (alone_fit s _ f.0) in
+    rw (f.1, none_there s.dots s.len (omega arith)) (still_ok _ _ _ c.in_ok-judged.ensures)

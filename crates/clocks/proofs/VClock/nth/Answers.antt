@@ -1,35 +1,21 @@
-use mathlib.Core.Path.{◌≡◌}
-use native.Mathlib.Omega.{arith}
-use lib.ListN.{length}
-use Rattle.tables.specs.Refusal.{first_of}
+use Rattle.std.proofs.lemmas.Result.{err_from_is_err_and}
 use Rattle.clocks.specs.VClock.{few}
-use Rattle.clocks.specs.Calls.{nth_call, nth_says}
-use Rattle.clocks.proofs.Answers.{dot_there, dot_gone}
-use Rattle.clocks.proofs.Steps.{so}
-use borrow.Author.Rules.{rules}
+use Rattle.clocks.specs.Calls.{nth_call}
+use Rattle.clocks.proofs.Answers.{is_fit, alone_fit, still_ok, still_err, copied_is, dot_is}
 use Rattle.clocks.proofs.VClock.nth.Goals as goal
 
-pub returns-then-not-is_normalised : goal.returns-then-not-is_normalised
-unfolding nth_call nth_says first_of
-returns-then-not-is_normalised c = simp (so c.is_normalised.ensures c.if-not-is_normalised.true)
+pub returns-in_err-c : goal.returns-in_err-c
+unfolding nth_call
+returns-in_err-c c = let p = err_from_is_err_and c.from_residual.result c.from_residual.ensures.1 in rw (p.1, p.2) (still_err _ _ _ c.in_err-c.ensures)
 
-pub offset_bounds-self-i : goal.offset_bounds-self-i
-offset_bounds-self-i c = let f = few _ (so c.is_normalised.ensures c.if-not-is_normalised.false) in omega arith
+pub shared_ref_as_front-get : goal.shared_ref_as_front-get
+shared_ref_as_front-get c =
+    let f = is_fit _ _ c.in_ok-c.ensures in
+    rw f.1 (few _ (alone_fit _ _ f.0))
 
-pub bounds-self-i : goal.bounds-self-i
-bounds-self-i c = let f = few _ (so c.is_normalised.ensures c.if-not-is_normalised.false) in omega arith
-
-pub returns-then-i-self : goal.returns-then-i-self
-unfolding nth_call nth_says first_of
-returns-then-i-self c =
-    let s = c.args.self in
-    let n = so c.is_normalised.ensures c.if-not-is_normalised.false in
-    let f = few s n in
-    let long : length s.dots ≡ 16 = search rules in
-    simp (n, dot_there s.dots s.len c.args.i c.if-i-self.true (omega arith))
-
-pub returns-else-i-self : goal.returns-else-i-self
-unfolding nth_call nth_says first_of
-returns-else-i-self c =
-    let s = c.args.self in
-    simp (so c.is_normalised.ensures c.if-not-is_normalised.false, dot_gone s.dots s.len c.args.i c.if-i-self.false)
+pub returns : goal.returns
+unfolding nth_call
+returns c =
+    let f = is_fit _ _ c.in_ok-c.ensures in
+    let look = c.get.ensures.lookup in
+    rw (c.copied.ensures, copied_is _ _ _ look.0 look.1, dot_is, f.1) (still_ok _ _ _ c.in_ok-c.ensures)

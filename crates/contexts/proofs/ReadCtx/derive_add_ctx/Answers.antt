@@ -1,20 +1,27 @@
-use Rattle.clocks.proofs.Steps.{so}
-use mathlib.Core.Path.{◌∙◌}
-use Rattle.tables.specs.Refusal.{first_of}
-use Rattle.contexts.specs.Contexts.{add_ctx_call, add_ctx_answer}
-use Rattle.contexts.proofs.Steps.{next_refused, after_refused, derived}
+use Rattle.std.proofs.lemmas.Result.{err_from_is_err_and}
+use Rattle.clocks.proofs.Answers.{is_fit, is_unfit}
+use Rattle.contexts.proofs.Steps.{unfit_add, next_refused, after_refused, derived}
 use Rattle.contexts.proofs.ReadCtx.derive_add_ctx.Goals as goal
 
--- `contexts::ReadCtx::derive_add_ctx` meets its contract.
-pub returns-then-next-ne0 : goal.returns-then-next-ne0
-returns-then-next-ne0 c = c.refused.ensures ∙ next_refused _ _ (so c.is_fit.ensures c.if-is_fit.true) _ c.inc-next.ensures c.if-next-ne0.true
+pub returns-in_err-clock : goal.returns-in_err-clock
+returns-in_err-clock c =
+    let p = err_from_is_err_and c.from_residual.result c.from_residual.ensures.1 in
+    let u = is_unfit _ _ c.in_err-clock.ensures in
+    rw (p.1, p.2, u.1) (unfit_add _ _ u.0)
 
-pub returns-then-after-ne0 : goal.returns-then-after-ne0
-returns-then-after-ne0 c = c.refused-then-after-ne0.ensures ∙ after_refused _ _ (so c.is_fit.ensures c.if-is_fit.true) _ c.inc-next.ensures c.if-next-ne0.false _ c.apply-after.ensures c.if-after-ne0.true
+pub returns-in_err-dot : goal.returns-in_err-dot
+returns-in_err-dot c =
+    let p = err_from_is_err_and c.from_residual-in_err-dot.result c.from_residual-in_err-dot.ensures.1 in
+    let f = is_fit _ _ c.in_ok-clock.ensures in
+    rw (p.1, p.2) (next_refused _ _ f.0 _ (rw f.1 at c.in_err-dot.ensures))
 
-pub returns-else-after-ne0 : goal.returns-else-after-ne0
-returns-else-after-ne0 c = derived _ _ (so c.is_fit.ensures c.if-is_fit.true) _ c.inc-next.ensures c.if-next-ne0.false _ c.apply-after.ensures c.if-after-ne0.false
+pub returns-in_err-clock-2 : goal.returns-in_err-clock-2
+returns-in_err-clock-2 c =
+    let p = err_from_is_err_and c.from_residual-in_err-clock-2.result c.from_residual-in_err-clock-2.ensures.1 in
+    let f = is_fit _ _ c.in_ok-clock.ensures in
+    rw (p.1, p.2) (after_refused _ _ f.0 _ (rw f.1 at c.in_ok-dot.ensures) _ (rw f.1 at c.in_err-clock-2.ensures))
 
-pub returns-else-is_fit : goal.returns-else-is_fit
-unfolding add_ctx_call add_ctx_answer first_of
-returns-else-is_fit c = c.refused-else-is_fit.ensures ∙ simp (so c.is_fit.ensures c.if-is_fit.false)
+pub returns : goal.returns
+returns c =
+    let f = is_fit _ _ c.in_ok-clock.ensures in
+    derived _ _ f.0 _ (rw f.1 at c.in_ok-dot.ensures) _ (rw f.1 at c.in_ok-clock-2.ensures)

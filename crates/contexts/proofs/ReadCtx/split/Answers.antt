@@ -1,13 +1,14 @@
-use Rattle.clocks.proofs.Steps.{so}
-use Rattle.tables.specs.Refusal.{first_of}
+use Rattle.std.proofs.lemmas.Result.{err_from_is_err_and}
+use Rattle.std.proofs.Common.{◌∙◌}
+use Rattle.clocks.proofs.Answers.{is_fit, still_ok, still_err}
 use Rattle.contexts.specs.Contexts.{split_call}
+use Rattle.contexts.proofs.Steps.{judged_is}
 use Rattle.contexts.proofs.ReadCtx.split.Goals as goal
 
--- `contexts::ReadCtx::split` meets its contract.
-pub returns-then-is_fit : goal.returns-then-is_fit
-unfolding split_call first_of
-returns-then-is_fit c = simp (so c.is_fit.ensures c.if-is_fit.true)
+pub returns-in_err-ctx : goal.returns-in_err-ctx
+unfolding split_call
+returns-in_err-ctx c = let p = err_from_is_err_and c.from_residual.result c.from_residual.ensures.1 in rw (p.1, p.2) (still_err _ _ _ c.in_err-ctx.ensures ∙ judged_is _ _)
 
-pub returns-else-is_fit : goal.returns-else-is_fit
-unfolding split_call first_of
-returns-else-is_fit c = simp (so c.is_fit.ensures c.if-is_fit.false, c.new-add_clock.ensures, c.new-rm_clock.ensures)
+pub returns : goal.returns
+unfolding split_call
+returns c = rw (is_fit _ _ c.in_ok-ctx.ensures).1 (still_ok _ _ _ c.in_ok-ctx.ensures ∙ judged_is _ _)

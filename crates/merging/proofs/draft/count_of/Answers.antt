@@ -1,19 +1,12 @@
 use mathlib.Core.Path.{sym, ◌∙◌}
-use native.Mathlib.Omega.{arith}
-use Rattle.merging.proofs.DraftSteps.{count_begin, count_found, count_on, count_end}
+use Rattle.merging.proofs.DraftSteps.{count_found, count_on, count_end}
 use Rattle.merging.proofs.draft.count_of.Goals as goal
 
-pub loop-i-init : goal.loop-i-init
-loop-i-init c = (omega arith, count_begin _ _ _ _)
-
 pub returns-then-u32_at-actor : goal.returns-then-u32_at-actor
-returns-then-u32_at-actor c = count_found _ _ _ _ _ _ c.loop-i.invariant.1 c.loop-i-test.true (sym c.u32_at.ensures ∙ c.if-u32_at-actor.true) _ c.u64_at.ensures
-
-pub loop-i-smaller : goal.loop-i-smaller
-loop-i-smaller c = let t = c.loop-i-test.true in omega arith
+returns-then-u32_at-actor c = count_found _ _ _ _ _ _ c.loop-i.invariant c.loop-i-test.true (sym c.u32_at.ensures ∙ c.if-u32_at-actor.true) _ c.u64_at.ensures
 
 pub loop-i-preserved : goal.loop-i-preserved
-loop-i-preserved c = let t = c.loop-i-test.true in (omega arith, count_on _ _ _ _ _ _ c.loop-i.invariant.1 t (λ e. c.if-u32_at-actor.false (c.u32_at.ensures ∙ e)))
+loop-i-preserved c = count_on _ _ _ _ _ _ c.loop-i.invariant c.loop-i-test.true (λ e. c.if-u32_at-actor.false (c.u32_at.ensures ∙ e))
 
 pub returns : goal.returns
-returns c = count_end _ _ _ _ _ _ c.loop-i.invariant.1 c.loop-i-test.false
+returns c = count_end _ _ _ _ _ _ c.loop-i.invariant c.loop-i-test.false

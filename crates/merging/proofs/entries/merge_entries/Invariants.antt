@@ -1,12 +1,11 @@
 use Prim.Native.Nat.{◌+◌}
-use lib.ListN.{take}
 use Rattle.layout.specs.Rows.{rows_end_at}
 use Rattle.layout.specs.Image.{image_of}
 use Rattle.merging.proofs.RowLoop.{Rowing}
 use Rattle.merging.proofs.entries.merge_entries.Given as goal
 
 abbrev pub invariant-loop-w : goal.invariant-loop-w
-invariant-loop-w l = Rowing (take l.n l.actors) (image_of l.s) (image_of l.t) l.s l.t l.m l.k l.at (rows_end_at l.s l.p l.m) (rows_end_at l.t l.q l.k) l.initial.out l.out l.w
+invariant-loop-w l = let u = l.initial.w in Rowing l.actors (image_of l.s) (image_of l.t) l.s l.t u.x.left u.y.left u.at (rows_end_at l.s u.x.at u.x.left) (rows_end_at l.t u.y.at u.y.left) l.initial.out l.out l.w
 
 abbrev pub decreases-loop-w : goal.decreases-loop-w
-decreases-loop-w l = l.w.m + l.w.k
+decreases-loop-w l = l.w.x.left + l.w.y.left

@@ -1,4 +1,4 @@
-use Rattle.scan.proofs.Steps.{u64_of_part}
+use Rattle.fields.proofs.Parts.{u64_of_part}
 use mathlib.Core.Path.{◌∙◌}
 use Rattle.merging.proofs.entries.u64_in.Goals as goal
 

@@ -1,4 +1,3 @@
-use Prim.Native.Nat.{◌-◌}
 use mathlib.Core.Path.{◌≡◌}
 use mathlib.Core.List.{[], ◌∷◌}
 use lib.ListN.{length}
@@ -7,6 +6,3 @@ use Rattle.merging.proofs.side.put_rows.Given as goal
 
 abbrev pub invariant-loop-i : goal.invariant-loop-i
 invariant-loop-i l = Rowing (l.d ∷ []) l.m.at l.n l.initial.s l.s l.places l.i × (length l.places ≡ 64)
-
-abbrev pub decreases-loop-i : goal.decreases-loop-i
-decreases-loop-i l = l.n - l.i

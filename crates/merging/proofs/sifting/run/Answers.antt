@@ -1,70 +1,47 @@
-use mathlib.Core.Path.{◌∙◌}
+use mathlib.Core.Path.{sym, ◌∙◌}
 use native.Mathlib.Omega.{arith}
-use lib.ListN.{take}
 use Rattle.layout.specs.Fields.{Bytes}
 use Rattle.merging.proofs.RowSteps.{end_ge}
-use Rattle.merging.proofs.SiftSteps.{FirstRow, first_row, head_inside}
-use Rattle.merging.proofs.SiftLoop.{ready_on, passed_none, passed_on}
+use Rattle.merging.proofs.SiftSteps.{FirstRow, first_row, next_hand, line_long, line_sifted}
+use Rattle.merging.proofs.SiftLoop.{passed_none, passed_on}
+use Rattle.merging.proofs.SharedSteps.{line_shared, ready_on}
 use Rattle.merging.proofs.sifting.run.Goals as goal
-use Rattle.merging.proofs.sifting.run.Goals.{After-index-xs}
+use Rattle.merging.proofs.sifting.run.Goals.{After-next-dots}
 
 -- the row that was read
-row : (c : After-index-xs) → FirstRow c.args.s.now c.loop-r.r.p c.loop-r.r.m c.index-xs.result (take c.args.n c.args.actors.now)
-row c = first_row _ _ _ _ _ c.loop-r-test.true (c.index-xs.ensures.0 ∙ c.u32_in.ensures) (ready_on c.requires c.loop-r.invariant.moved).ahead
+
+row : (c : After-next-dots) → FirstRow c.args.s.now c.loop-r.r.x.at c.loop-r.r.x.left c.next-dots.result.left c.args.actors.now
+row c = first_row _ _ _ _ _ c.loop-r-test.true c.next-dots.ensures.1 (ready_on c.requires c.loop-r.invariant.moved).ahead
 
 pub loop-r-init : goal.loop-r-init
-loop-r-init c = let a = c.args in let h = c.requires.ahead.room in passed_none (let e = end_ge a.s.now a.w.p a.w.m in omega arith)
+loop-r-init c = let a = c.args in let h = c.requires.ahead.room in passed_none (let e = end_ge a.s.now a.w.x.at a.w.x.left in omega arith)
 
-pub overflow_add-r : goal.overflow_add-r
-overflow_add-r c = let h = head_inside _ _ _ _ c.loop-r-test.true (ready_on c.requires c.loop-r.invariant.moved).ahead in omega arith
-
-pub u32_in-requires : goal.u32_in-requires
-u32_in-requires c = let h = head_inside _ _ _ _ c.loop-r-test.true (ready_on c.requires c.loop-r.invariant.moved).ahead in omega arith
-
-pub overflow_add-r-in-loop-r : goal.overflow_add-r-in-loop-r
-overflow_add-r-in-loop-r c = let i = (row (goal.at.overflow_add-r-in-loop-r c).After-index-xs).small in omega arith
+pub reach-h-requires : goal.reach-h-requires
+reach-h-requires c =
+    let q = (ready_on c.requires c.loop-r.invariant.moved).few in let m = c.loop-r-test.true in let f = c.requires.lined.few in
+    let l = line_long _ _ _ _ c.line_at-line.ensures (omega arith) c.requires.lined.wide in
+    (omega arith, line_shared _ _ _ _ c.line_at-line.ensures _ f c.requires.reach)
 
 pub stays-requires : goal.stays-requires
-stays-requires c = let p = c.requires in let r = row (goal.at.stays-requires c).After-index-xs in let q = (ready_on p c.loop-r.invariant.moved).few in let m = c.loop-r-test.true in (r.inside, omega arith, p.lined, p.reach, r.met)
-
-pub overflow_add-r-then-stays : goal.overflow_add-r-then-stays
-overflow_add-r-then-stays c = let i = (row (goal.at.overflow_add-r-then-stays c).After-index-xs).small in omega arith
+stays-requires c =
+    let r = row (goal.at.stays-requires c).After-next-dots in
+    let q = (ready_on c.requires c.loop-r.invariant.moved).few in let m = c.loop-r-test.true in let f = c.requires.lined.few in
+    let l = line_long _ _ _ _ c.line_at-line.ensures (omega arith) c.requires.lined.wide in
+    rw c.next-dots.ensures.0 (r.inside, omega arith, c.reach-h.ensures, r.met)
 
 pub overflow_mul-r : goal.overflow_mul-r
-overflow_mul-r c = let i = (row (goal.at.overflow_mul-r c).After-index-xs).small in omega arith
+overflow_mul-r c = let i = (row (goal.at.overflow_mul-r c).After-next-dots).small in omega arith
 
-pub overflow_add-r-then-stays-2 : goal.overflow_add-r-then-stays-2
-overflow_add-r-then-stays-2 c = let i = (row (goal.at.overflow_add-r-then-stays-2 c).After-index-xs).small in omega arith
+pub overflow_add-r : goal.overflow_add-r
+overflow_add-r c = let i = (row (goal.at.overflow_add-r c).After-next-dots).small in omega arith
 
-pub overflow_sub-r : goal.overflow_sub-r
-overflow_sub-r c = let m = c.loop-r-test.true in omega arith
-
-pub overflow_add-r-then-stays-3 : goal.overflow_add-r-then-stays-3
-overflow_add-r-then-stays-3 c = let q = (ready_on c.requires c.loop-r.invariant.moved).few in omega arith
-
-pub overflow_mul-r-then-stays : goal.overflow_mul-r-then-stays
-overflow_mul-r-then-stays c = let i = (row (goal.at.overflow_mul-r-then-stays c).After-index-xs).small in omega arith
-
-pub overflow_add-r-then-stays-4 : goal.overflow_add-r-then-stays-4
-overflow_add-r-then-stays-4 c = let i = (row (goal.at.overflow_add-r-then-stays-4 c).After-index-xs).small in omega arith
-
-pub overflow_add-r-then-stays-5 : goal.overflow_add-r-then-stays-5
-overflow_add-r-then-stays-5 c = let i = (row (goal.at.overflow_add-r-then-stays-5 c).After-index-xs).small in let r = ready_on c.requires c.loop-r.invariant.moved in let q = r.place in let f = r.few in omega arith
-
-pub overflow_add-r-then-stays-6 : goal.overflow_add-r-then-stays-6
-overflow_add-r-then-stays-6 c = let r = ready_on c.requires c.loop-r.invariant.moved in let q = r.kept in let f = r.few in omega arith
-
-pub loop-r-smaller : goal.loop-r-smaller
-loop-r-smaller c = let m = c.loop-r-test.true in omega arith
+pub overflow_add-r-then-stays : goal.overflow_add-r-then-stays
+overflow_add-r-then-stays c = let i = (row (goal.at.overflow_add-r-then-stays c).After-next-dots).small in let r = ready_on c.requires c.loop-r.invariant.moved in let q = r.place in let f = r.few in omega arith
 
 pub loop-r-preserved : goal.loop-r-preserved
 loop-r-preserved c =
-    let a = c.args in
+    let a = c.args in let n = c.next-dots.ensures in
     let b : Bytes a.s.now = λ i. omega (arith, c.type_inv.s i) in
-    passed_on _ c.loop-r.invariant (row (goal.at.loop-r-preserved c).After-index-xs) c.loop-r-test.true c.requires.lined.few b (c.index-xs.ensures.0 ∙ c.u32_in.ensures) (c.stays.ensures c.if-stays.true)
-
-pub returns-else-stays : goal.returns-else-stays
-returns-else-stays c = c.loop-r.invariant
-
-pub returns : goal.returns
-returns c = c.loop-r.invariant
+    let t = rw n.0 at (c.stays.ensures c.if-stays.true) in
+    passed_on _ _ (next_hand _ _ _ n.2 n.3 n.4) c.loop-r.invariant (row (goal.at.loop-r-preserved c).After-next-dots) c.loop-r-test.true c.requires.lined.few b n.1
+    (t.0, sym (line_sifted _ _ _ _ c.line_at-line.ensures _ _ c.requires.lined.few) ∙ t.1)

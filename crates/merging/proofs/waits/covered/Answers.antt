@@ -1,39 +1,22 @@
 use mathlib.Core.Path.{refl, ◌∙◌}
 use native.Mathlib.Omega.{arith}
-use Rattle.merging.proofs.KeepSteps.{dot_said, dot_past, dot_edge}
-use Rattle.merging.proofs.OrderSteps.{cover_begin, cover_less, cover_on, cover_end}
+use Rattle.clocks.specs.VClock.{dots_of}
+use Rattle.merging.proofs.OrderSteps.{cover_less, cover_on, cover_end}
 use Rattle.merging.proofs.waits.covered.Goals as goal
 
-pub loop-i-init : goal.loop-i-init
-loop-i-init c = (omega arith, refl, cover_begin _ _ _ _)
+pub loop-d-init : goal.loop-d-init
+loop-d-init c = (refl, refl)
 
-pub met_in-met-requires : goal.met_in-met-requires
-met_in-met-requires c = let z = c.loop-i.invariant in let p = c.requires in omega arith
+pub take-requires : goal.take-requires
+take-requires c = let z = c.loop-d.invariant in let p = c.requires in omega arith
 
-pub counter_in-requires : goal.counter_in-requires
-counter_in-requires c = λ h. let z = c.loop-i.invariant in let p = c.requires in let f = c.met_in-met.ensures.fits in omega arith
+pub returns-then-d-take : goal.returns-then-d-take
+returns-then-d-take c = cover_less (dots_of c.args.v.now) _ _ c.loop-d.d-index _ _ c.loop-d.invariant.1 (omega arith) _ c.take.ensures.is c.if-d-take.true
 
-pub returns-then-line-i : goal.returns-then-line-i
-returns-then-line-i c =
-    let z = c.loop-i.invariant in let m = c.met_in-met.ensures in
-    cover_less _ _ _ _ _ _ _ _ z.2 c.loop-i-test.true _ _ (dot_said _ _ _ _ _ m.small m _ c.counter_in.ensures) refl c.if-line-i.true
-
-pub overflow_mul-at : goal.overflow_mul-at
-overflow_mul-at c = let m = c.met_in-met.ensures.one in omega arith
-
-pub overflow_add-at : goal.overflow_add-at
-overflow_add-at c = let z = c.loop-i.invariant in let m = c.met_in-met.ensures.one in let f = c.met_in-met.ensures.fits in let pre = c.requires in omega arith
-
-pub overflow_sub-left : goal.overflow_sub-left
-overflow_sub-left c = let f = c.met_in-met.ensures.fits in omega arith
-
-pub loop-i-smaller : goal.loop-i-smaller
-loop-i-smaller c = let t = c.loop-i-test.true in omega arith
-
-pub loop-i-preserved : goal.loop-i-preserved
-loop-i-preserved c =
-    let z = c.loop-i.invariant in let m = c.met_in-met.ensures in let t = c.loop-i-test.true in
-    (omega arith, dot_edge _ _ _ _ _ m.small m ∙ z.1, rw (dot_past _ _ _ _ _ m.small m) (cover_on _ _ _ _ _ _ _ _ z.2 t _ _ (dot_said _ _ _ _ _ m.small m _ c.counter_in.ensures) refl c.if-line-i.false))
+pub loop-d-preserved : goal.loop-d-preserved
+loop-d-preserved c =
+    let z = c.loop-d.invariant in let t = c.take.ensures in
+    (t.edge ∙ z.0, rw t.past (cover_on (dots_of c.args.v.now) _ _ c.loop-d.d-index _ _ z.1 (omega arith) _ t.is c.if-d-take.false))
 
 pub returns : goal.returns
-returns c = cover_end _ _ _ _ _ _ _ _ c.loop-i.invariant.2 c.loop-i-test.false
+returns c = cover_end (dots_of c.args.v.now) _ _ c.loop-d.d-index _ _ c.loop-d.invariant.1 (omega arith)

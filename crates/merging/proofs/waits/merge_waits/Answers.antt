@@ -1,10 +1,11 @@
+use mathlib.Core.Path.{refl}
 use native.Mathlib.Omega.{arith}
 use Rattle.merging.proofs.WaitSteps.{end_ge}
 use Rattle.merging.proofs.WaitLoop.{waits_begin, waits_ahead, waits_again, waits_done}
 use Rattle.merging.proofs.waits.merge_waits.Goals as goal
 
 pub loop-w-init : goal.loop-w-init
-loop-w-init c = waits_begin _ _ _ _ _ _ _ c.requires.0 _ _
+loop-w-init c = waits_begin _ _ _ _ _ _ _ c.requires.0 c.args.start refl refl refl refl c.requires.3 c.requires.4 _
 
 pub overflow_add-w : goal.overflow_add-w
 overflow_add-w c = let z = c.loop-w.invariant in let r = c.requires.0 in let f = z.few in let x = r.left_few in let y = r.right_few in omega arith

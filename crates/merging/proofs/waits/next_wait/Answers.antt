@@ -18,7 +18,7 @@ overflow_add-q c = let k = c.if-k-eq0.false in let h = (dots_inside _ _ (c.requi
 pub order-requires : goal.order-requires
 order-requires c =
     let m = c.if-m-eq0.false in let k = c.if-k-eq0.false in
-    ((dots_inside _ _ (c.requires.1 (omega arith))).1 _ (c.index.ensures.0 ∙ c.u32_at.ensures), (dots_inside _ _ (c.requires.2 (omega arith))).1 _ (c.index-2.ensures.0 ∙ c.u32_at-2.ensures))
+    ((dots_inside _ _ (c.requires.1 (omega arith))).1 _ (c.index-n.ensures.0 ∙ c.u32_at.ensures), (dots_inside _ _ (c.requires.2 (omega arith))).1 _ (c.index-l.ensures.0 ∙ c.u32_at-2.ensures))
 
 pub returns : goal.returns
-returns c = either _ _ _ _ _ _ c.if-m-eq0.false c.if-k-eq0.false _ _ _ (c.index.ensures.0 ∙ c.u32_at.ensures) (c.index-2.ensures.0 ∙ c.u32_at-2.ensures) c.order.ensures
+returns c = either _ _ _ _ _ _ c.if-m-eq0.false c.if-k-eq0.false _ _ _ (c.index-n.ensures.0 ∙ c.u32_at.ensures) (c.index-l.ensures.0 ∙ c.u32_at-2.ensures) c.order.ensures

@@ -1,5 +1,4 @@
 use mathlib.Core.Path.{◌≡◌}
-use Prim.Native.Nat.{◌-◌, ◌≤◌, min}
 use Rattle.tables.specs.Order.{lex}
 use Rattle.dots.specs.Dot.{cmp_dot}
 use Rattle.layout.specs.Clock.{dots_at}
@@ -7,7 +6,4 @@ use Rattle.merging.proofs.OrderSteps.{dots_past}
 use Rattle.merging.proofs.waits.order.Given as goal
 
 abbrev pub invariant-loop-i : goal.invariant-loop-i
-invariant-loop-i l = (l.least ≡ min l.n l.m) × (l.i ≤ min l.n l.m) × (lex cmp_dot (dots_past l.s l.p l.n l.i) (dots_past l.t l.q l.m l.i) ≡ lex cmp_dot (dots_at l.s l.p l.n) (dots_at l.t l.q l.m))
-
-abbrev pub decreases-loop-i : goal.decreases-loop-i
-decreases-loop-i l = l.least - l.i
+invariant-loop-i l = lex cmp_dot (dots_past l.s l.p l.n l.i) (dots_past l.t l.q l.m l.i) ≡ lex cmp_dot (dots_at l.s l.p l.n) (dots_at l.t l.q l.m)
