@@ -15,12 +15,7 @@ fn height(line: &[u64], n: usize) -> usize
     requires { n ≤ length line.now }
     ensures { Reach line.now 0 n result }
 {
-    for h in (0..n).rev() {
-        if line[h] != 0 {
-            return h + 1;
-        }
-    }
-    0
+    line[..n].iter().rposition(|x| *x != 0).map_or(0, |h| h + 1)
 }
 
 // How many of its first n numbers count, where there is one line for all entries; none where each has its own.

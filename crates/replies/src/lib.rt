@@ -13,7 +13,7 @@ ghost use Rattle.replies.specs.Lent.{unfit_clock, clock_lent};
 ghost use Rattle.replies.specs.Given.{clock_given};
 
 use clocks::VClock;
-use dots::{Actor, Dot, OpRefused, Refused};
+use dots::{OpRefused, Refused};
 use fields::{index, put_u32, put_u64};
 use validating::Spent;
 
@@ -29,10 +29,7 @@ pub fn packed(no: u32, low: u32) -> u64
 pub fn clock_lent(bytes: &[u8]) -> VClock
     ensures { result ≡ clock_lent bytes.now }
 {
-    let Some(end) = scan::clock_ends(bytes, 0) else {
-        return unfit_clock();
-    };
-    if end == bytes.len() {
+    if scan::clock_ends(bytes, 0) == Some(bytes.len()) {
         fields::clock_at(bytes, 0)
     } else {
         unfit_clock()
@@ -85,7 +82,8 @@ pub fn number_of(v: Result<(), OpRefused>) -> u32
     }
 }
 
-// Writes the gap that a verdict names, start and end, where 16 bytes fit.
+// Writes the gap that a verdict names, start and end, where 16 bytes fit. The two kinds of refusal are told apart in a match: `if let` with a pattern of
+// two layers leaves the proof no name for what a verdict without a gap is.
 pub fn put_gap(v: Result<(), OpRefused>, out: &mut [u8])
     ensures { out.new ≡ sets out.old 0 (if_room (length out.old) (named_gap (gap_named v))) }
 {
@@ -108,9 +106,8 @@ pub fn put_gap(v: Result<(), OpRefused>, out: &mut [u8])
 fn unfit_clock() -> VClock
     ensures { result ≡ unfit_clock }
 {
-    let dots = [Dot {
-        actor: Actor(0),
-        counter: 0,
-    }; 16];
-    VClock { dots, len: 17 }
+    VClock {
+        len: 17,
+        ..VClock::new()
+    }
 }

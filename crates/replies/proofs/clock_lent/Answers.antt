@@ -1,11 +1,8 @@
-use Rattle.replies.proofs.Clocks.{none_lent, more_lent, whole_lent}
+use Rattle.replies.proofs.Clocks.{not_lent, whole_lent}
 use Rattle.replies.proofs.clock_lent.Goals as goal
 
-pub returns-in_default : goal.returns-in_default
-returns-in_default c = none_lent _ _ c.in_default.ensures c.unfit_clock.ensures
+pub returns-then-eq : goal.returns-then-eq
+returns-then-eq c = whole_lent _ _ _ c.clock_ends.ensures c.eq.ensures _ c.if-eq.true c.clock_at.ensures
 
-pub returns-then-end-bytes : goal.returns-then-end-bytes
-returns-then-end-bytes c = whole_lent _ _ _ c.in-Some.ensures c.if-end-bytes.true c.clock_at.ensures
-
-pub returns-else-end-bytes : goal.returns-else-end-bytes
-returns-else-end-bytes c = more_lent _ _ _ c.in-Some.ensures c.if-end-bytes.false c.unfit_clock-else-end-bytes.ensures
+pub returns-else-eq : goal.returns-else-eq
+returns-else-eq c = not_lent _ _ _ c.clock_ends.ensures c.eq.ensures _ c.if-eq.false c.unfit_clock.ensures
