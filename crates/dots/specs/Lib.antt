@@ -1,5 +1,6 @@
 pub mod Dot
 pub mod Answers
+pub mod Words
 pub mod Calls
 pub mod Clock
 pub mod ClockLaws

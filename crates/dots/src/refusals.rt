@@ -1,7 +1,8 @@
 // What a call refuses with: the refusals by number, and the gap, which `validate_op` alone gives.
 
-ghost use Rattle.std.specs.Prelude.{◌≡◌};
+ghost use Rattle.std.specs.Prelude.{◌≡◌, Some};
 ghost use Rattle.dots.specs.Answers.{number, op_number};
+ghost use Rattle.dots.specs.Words.{refused_text, op_refused_text};
 ghost use Rattle.dots.specs.declared.refusals.OpRefused.TheVariants.{Refused as RefusedWith};
 
 use crate::DotRange;
@@ -71,6 +72,8 @@ impl From<Refused> for OpRefused {
 }
 
 impl fmt::Display for Refused {
+    ghost output = { λ r. Some (refused_text r) };
+
     fn fmt<W: fmt::Write>(&self, f: &mut fmt::Formatter<W>) -> fmt::Result {
         f.write_str(match self {
             Refused::BadImage => "the image is not one of a replica",
@@ -87,13 +90,16 @@ impl fmt::Display for Refused {
     }
 }
 
+// The missing dots are a range as Rust writes it: its end isn't one of them.
 impl fmt::Display for OpRefused {
+    ghost output = { λ r. Some (op_refused_text r) };
+
     fn fmt<W: fmt::Write>(&self, f: &mut fmt::Formatter<W>) -> fmt::Result {
         match self {
             OpRefused::Refused(refused) => write!(f, "{}", refused),
             OpRefused::Gap(range) => write!(
                 f,
-                "dots {} to {} of actor {} are missing",
+                "dots {}..{} of actor {} are missing",
                 range.start, range.end, range.actor.0
             ),
         }
