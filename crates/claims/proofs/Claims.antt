@@ -66,7 +66,7 @@ use Rattle.claims.specs.Network.{SameOnes, Gathers}
 use Rattle.claims.proofs.Network.{same_gathered}
 use Rattle.claims.specs.Calls.{EmptyReplies, MergeReplies, AddReplies, RemoveReplies, ResetReplies}
 use Rattle.claims.specs.InC.{Halves, answer_in, Replied, adding, removing, resetting, RepliedHistory}
-use Rattle.claims.proofs.InC.{one_number, in_c, halves_in_c, empty_meets, lent_add, lent_remove, lent_reset, history_in_c}
+use Rattle.claims.proofs.InC.{one_number, in_c, halves_in_c, empty_meets, empty_halves, lent_add, lent_remove, lent_reset, history_in_c}
 use Rattle.claims.specs.Anywhere.{NotBehind}
 use Rattle.claims.proofs.Anywhere.{was_formed, made_again, made_anywhere, either_order, clock_normal}
 
@@ -417,11 +417,14 @@ lowest_in_c q a {before} {r = r} bytes lent kept =
     let e : r / 4294967296 ≡ number_in (answer_in r) = ap (λ (x : Halves). x.number) (halves_in_c q a bytes lent kept) in
     subst (λ (k : ℕ). All (λ p. p.applies ≡ true → (0 < k) × (k ≤ p.number)) (table_of full (call_on q a) (length before))) (sym e) (lowest_given q a (in_c q a bytes lent kept))
 
--- the upper half is the number of that answer, the lower its length: 0 where it is refused
+-- and nothing of r is lost in `answer_in r`: the upper half is the number of that answer, the lower its length, 0 where it is refused
 pub halves_said : (q : Request) (a : List ℕ) {before after : List ℕ} {r : ℕ} → Bytes a → Lent q → Replied q a before r after → (r / 4294967296 ≡ number_in (answer_in r)) × (r % 4294967296 ≡ length_in (answer_in r))
 halves_said q a bytes lent kept =
     let e = halves_in_c q a bytes lent kept in
     (ap (λ (x : Halves). x.number) e, ap (λ (x : Halves). x.length) e)
+
+pub empty_halves_said : {out after : List ℕ} {r : ℕ} → EmptyReplies out r after → (r / 4294967296 ≡ number_in (answer_in r)) × (r % 4294967296 ≡ length_in (answer_in r))
+empty_halves_said kept = let e = empty_halves kept in (ap (λ (x : Halves). x.number) e, ap (λ (x : Halves). x.length) e)
 
 -- swapping the two sides of a merge gives the same answer and the same bytes
 pub swap_in_c : {a b x₁ x₂ y₁ y₂ : List ℕ} {r₁ r₂ : ℕ} → WellFormed a → WellFormed b → Roomy x₁ → Roomy x₂ → MergeReplies a b x₁ r₁ y₁ → MergeReplies b a x₂ r₂ y₂

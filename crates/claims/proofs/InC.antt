@@ -20,6 +20,7 @@ use Rattle.reading.specs.Calls.{empty_call}
 use Rattle.replies.specs.Reply.{reply, Replies, halves}
 use Rattle.replies.specs.Lent.{good_lent, unfit_clock, clock_lent, lent_dots}
 use Rattle.exports.specs.Calls.{replica_reply}
+use Rattle.exports.proofs.Orderly.{empty_orderly}
 use Rattle.exports.proofs.Replied.{ten}
 use Rattle.results.specs.Laws.{Orderly}
 use Rattle.std.proofs.Math.Path.{ap₂}
@@ -75,13 +76,18 @@ module _ (c : Call) (before after : List ℕ) (r : ℕ) (short : number_of full 
         output = kept.output ∙ picked (eqb n 0) (encode c.result);
       }
 
-  -- nothing of the halves is lost in the answer: they are its number and its length
-  reply_halves : Orderly c → apart r ≡ record { number = number_in (answer_in r); length = length_in (answer_in r) }
+  -- the halves themselves are the number and the length, 0 beside a number, whatever the call
+  reply_apart : apart r ≡ record { number = n; length = pick (eqb n 0) (length (encode c.result)) 0 }
   unfolding replica_reply reply
-  reply_halves orderly =
+  reply_apart =
       let h = halves (replica_reply c (length before)) low_fits in
-      let x : r / 4294967296 ≡ n = ap (λ (k : ℕ). k / 4294967296) kept.answer ∙ h.0 in
-      let y : r % 4294967296 ≡ pick (eqb n 0) (length (encode c.result)) 0 = ap (λ (k : ℕ). k % 4294967296) kept.answer ∙ h.1 in
+      λ i. record { number = (ap (λ (k : ℕ). k / 4294967296) kept.answer ∙ h.0) i; length = (ap (λ (k : ℕ). k % 4294967296) kept.answer ∙ h.1) i }
+
+  -- nothing of them is lost in the answer: they are its number and its length
+  reply_halves : Orderly c → apart r ≡ record { number = number_in (answer_in r); length = length_in (answer_in r) }
+  reply_halves orderly =
+      let x : r / 4294967296 ≡ n = ap (λ (w : Halves). w.number) reply_apart in
+      let y : r % 4294967296 ≡ pick (eqb n 0) (length (encode c.result)) 0 = ap (λ (w : Halves). w.length) reply_apart in
       let t = ten c before after (answer_in r) orderly reply_meets in
       let p : number_in (answer_in r) ≡ r / 4294967296 = number_in_answer (r / 4294967296) (r % 4294967296) (rw x t) in
       let q : length_in (answer_in r) ≡ r % 4294967296 = ap₂ (λ (k l : ℕ). length_in (answer k l)) x y ∙ kept_length n (length (encode c.result)) ∙ sym y in
@@ -89,6 +95,9 @@ module _ (c : Call) (before after : List ℕ) (r : ℕ) (short : number_of full 
 
 pub empty_meets : {before after : List ℕ} {r : ℕ} → EmptyReplies before r after → Meets full empty_call before (answer_in r) after
 empty_meets {before} {after} {r} kept = reply_meets empty_call before after r (λ z. let e = empty_length in omega arith) kept
+
+pub empty_halves : {before after : List ℕ} {r : ℕ} → EmptyReplies before r after → apart r ≡ record { number = number_in (answer_in r); length = length_in (answer_in r) }
+empty_halves {before} {after} {r} kept = reply_halves empty_call before after r (λ z. let e = empty_length in omega arith) kept empty_orderly
 
 -- a granted result of bytes is an image, and so has at most 18,268 of them
 result_short : (q : Request) (a before : List ℕ) → Bytes a → Lent q → number_of full (call_on q a) (length before) ≡ 0 → length (encode (call_on q a).result) ≤ 18268

@@ -1,3 +1,4 @@
+pub mod Orderly
 pub mod Replied
 pub mod Short
 pub mod Named

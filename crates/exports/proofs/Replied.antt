@@ -35,6 +35,7 @@ use Rattle.replies.specs.Reply.{one_number, reply, Replies}
 use Rattle.image.specs.Image.{check_call, clock_call}
 use Rattle.reading.specs.Calls.{contains_call}
 use Rattle.replies.specs.Given.{clock_given}
+use Rattle.exports.proofs.Orderly.{apply_orderly, reset_orderly}
 use Rattle.exports.specs.Calls.{replica_reply, check_reply, contains_reply, read_reply, clock_reply}
 
 -- a number alone
@@ -117,7 +118,7 @@ read_taken s room x e =
     go false q = rw (number_refusal (read_number s room) (let z = eqb-false (read_number s room) 0 q in omega arith) (read_ten s room))
 
 module _ (before after : List ℕ) (r : ℕ) where
-  -- a call that writes a replica
+  -- a call that writes a replica and answers numbers that a refusal has
   pub replica_replies : (c : Call) (w : Result ℕ Refused) → Orderly c → Meets full c before w after → r ≡ number_in w * 4294967296 + length_in w → Replies (replica_reply c (length before)) before r after
   unfolding replica_reply reply output_of
   replica_replies c w o m e = record {
@@ -126,11 +127,11 @@ module _ (before after : List ℕ) (r : ℕ) where
   }
 
   -- the same by a clock argument, which is v
-  pub apply_replies : (s : List ℕ) (op : Op) (ms : List ℕ) (v c : VClock) (w : Result ℕ Refused) → Orderly (apply_call s op c ms) → c ≡ v → Meets full (apply_call s op c ms) before w after → r ≡ number_in w * 4294967296 + length_in w → Replies (replica_reply (apply_call s op v ms) (length before)) before r after
-  apply_replies s op ms v c w o e m f = rw (← e) (replica_replies (apply_call s op c ms) w o m f)
+  pub apply_replies : (s : List ℕ) (op : Op) (ms : List ℕ) (v c : VClock) (w : Result ℕ Refused) → c ≡ v → Meets full (apply_call s op c ms) before w after → r ≡ number_in w * 4294967296 + length_in w → Replies (replica_reply (apply_call s op v ms) (length before)) before r after
+  apply_replies s op ms v c w e m f = rw (← e) (replica_replies (apply_call s op c ms) w (apply_orderly s op c ms) m f)
 
-  pub reset_replies : (s : List ℕ) (v c : VClock) (w : Result ℕ Refused) → Orderly (reset_call s c) → c ≡ v → Meets full (reset_call s c) before w after → r ≡ number_in w * 4294967296 + length_in w → Replies (replica_reply (reset_call s v) (length before)) before r after
-  reset_replies s v c w o e m f = rw (← e) (replica_replies (reset_call s c) w o m f)
+  pub reset_replies : (s : List ℕ) (v c : VClock) (w : Result ℕ Refused) → c ≡ v → Meets full (reset_call s c) before w after → r ≡ number_in w * 4294967296 + length_in w → Replies (replica_reply (reset_call s v) (length before)) before r after
+  reset_replies s v c w e m f = rw (← e) (replica_replies (reset_call s c) w (reset_orderly s c) m f)
 
   pub read_replies : (s : List ℕ) (x : Result (ReadCtx × ℕ) Refused) → ReadMeets s before x after → r ≡ number_in (counted x) * 4294967296 + length_in (counted x) → Replies (read_reply s (length before)) before r after
   unfolding read_reply reply read_output

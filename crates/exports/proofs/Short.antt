@@ -111,20 +111,3 @@ read_short s out after x m = rw (ap counted m.answer) (go (good_image s) refl)
     go : (b : Bool) → good_image s ≡ b → length_in (counted (read_call s (length out))) ≤ 64
     go true g = held (eqb (read_number s (length out)) 0) (ctx_of (read (image_of s)) false) (refusal (read_number s (length out))) (few_members s g)
     go false g = rw g (omega arith)
-
--- the calls judge their arguments in order
-pub merge_orderly : (a b : List ℕ) → Orderly (merge_call a b)
-unfolding merge_call ascending before
-merge_orderly a b = tt
-
-pub apply_orderly : (s : List ℕ) (op : Op) (c : VClock) (ms : List ℕ) → Orderly (apply_call s op c ms)
-unfolding apply_call unfit_arguments ascending before
-apply_orderly s op c ms = tt
-
-pub reset_orderly : (s : List ℕ) (c : VClock) → Orderly (reset_call s c)
-unfolding reset_call ascending before
-reset_orderly s c = tt
-
-pub empty_orderly : Orderly empty_call
-unfolding ascending before
-empty_orderly = tt

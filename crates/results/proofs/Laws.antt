@@ -134,6 +134,12 @@ module _ (l : Limits) (c : Call) (before : List ℕ) (r : Result ℕ Refused) (a
   unfolding answer_of answered number_of
   answer_is = kept.answer
 
+  -- "The lowest number that applies is given", of any call, whatever its numbers: what is answered is the number of the definition, and that is k
+  -- exactly if the condition of k holds and none before it in the table does
+  pub number_answered : (k : ℕ) → 0 < k → (r ≡ answered (number_of l c (length before)) (length (encode c.result))) × ((number_of l c (length before) ≡ k) ↔ First table k)
+  unfolding answer_of number_of
+  number_answered k p = (kept.answer, first_right table k p)
+
   -- nothing is refused exactly if no condition holds
   none_is : number_in r ≡ 0 → first_of table ≡ 0
   none_is z = answer_done (first_of table) (length (encode c.result)) (sym (ap number_in answer_is) ∙ z)

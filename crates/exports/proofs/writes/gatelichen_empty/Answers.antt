@@ -1,6 +1,7 @@
 use native.Mathlib.Omega.{arith}
 use Rattle.exports.proofs.Replied.{replica_replies}
-use Rattle.exports.proofs.Short.{empty_short, empty_orderly}
+use Rattle.exports.proofs.Short.{empty_short}
+use Rattle.exports.proofs.Orderly.{empty_orderly}
 use Rattle.exports.proofs.writes.gatelichen_empty.Goals as goal
 
 pub written-requires : goal.written-requires

@@ -1,6 +1,7 @@
 use native.Mathlib.Omega.{arith}
 use Rattle.exports.proofs.Replied.{replica_replies}
-use Rattle.exports.proofs.Short.{merge_short, merge_orderly}
+use Rattle.exports.proofs.Short.{merge_short}
+use Rattle.exports.proofs.Orderly.{merge_orderly}
 use Rattle.exports.proofs.writes.gatelichen_merge.Goals as goal
 
 pub written-requires : goal.written-requires
