@@ -2,6 +2,7 @@
 // it is lent, and does its work or refuses with the lowest number that applies.
 #![tactic(auto)]
 
+pub use dots::{OpRefused, Refused};
 pub use image::{check_image, clock};
 pub use merging::{apply, merge, reset_remove};
 pub use operations::Op;
