@@ -1,16 +1,14 @@
 -- How a draft is judged and written, case by case.
 use Prim.Native.Nat.{ℕ, ◌+◌, ◌-◌, ◌≤◌, ◌<◌, min}
-use mathlib.Core.Path.{◌≡◌, refl, sym, ap, ◌∙◌}
+use mathlib.Core.Path.{◌≡◌, sym, ap, ◌∙◌}
 use mathlib.Core.Bool.{false}
 use mathlib.Core.List.{List, [], ◌++◌}
 use native.Mathlib.Omega.{arith}
-use native.Mathlib.Nat.{zero-add}
+use native.Mathlib.Nat.{zero-add, add-suc}
+use native.Mathlib.Numerals.{add-one}
 use lib.Dec.{eqb}
-use borrow.Rule.Slice.PartMut.{put_mid}
-use lib.ListN.{length, take, drop, length-take, length-drop, drop_of_length-le}
-use Rattle.std.proofs.lemmas.List.{take-append-drop, drop-take, take_all, take-take}
-use Rattle.std.proofs.lemmas.Slice.{put_mid-paste}
-use lib.Seq.{sets, slice, sets-eq, length-sets}
+use lib.ListN.{length, take, set, get_or, length-take, drop_of_length-le}
+use lib.Seq.{sets, slice, drop-cons, get_or-take}
 use borrow.Author.Tests.{lt-ltb, le-ltb}
 use Rattle.tables.specs.Refusal.{first_of}
 use Rattle.tables.specs.Stores.{sets_append}
@@ -88,31 +86,17 @@ module _ (v : VClock) (d : Draft) (body before : List ℕ) where
 
 -- ---- the copy
 
--- a part written over is a run of stores
-pub part_set : (out xs : List ℕ) (at k : ℕ) → length xs ≡ k → at + k ≤ length out → put_mid at k out xs ≡ sets out at xs
-part_set out xs at k e h = put_mid-paste at k out xs xs (length xs) refl e refl ∙ rw (take_all (length xs) xs (omega arith)) (sym (sets-eq xs out at (omega arith)))
+pub copy_on : (s out : List ℕ) (from end at i : ℕ) → from + i < end → from + i < length s
+    → sets (set out (at + i) (get_or s (from + i) 0)) (at + (i + 1)) (slice (from + (i + 1)) end s) ≡ sets out (at + i) (slice (from + i) end s)
+copy_on s out from end at i h k =
+    let e = drop-cons (take end s) (from + i) 0 (simp length-take (omega arith)) in
+    let f = get_or-take end s (from + i) 0 h in
+    rw (add-one i, add-suc from i, add-suc at i, e, f)
 
--- a run of stores up to the end of the list is the whole run
-sets_cut : (out xs : List ℕ) (at n : ℕ) → n ≤ length xs → (n < length xs → length out ≤ at + n) → sets out at (take n xs) ≡ sets out at xs
-sets_cut out xs at n h f =
-    let l : length (take n xs) ≡ n = simp length-take (omega arith) in
-    let o : length (sets out at (take n xs)) ≡ length out = length-sets out at (take n xs) in
-    let rest : sets (sets out at (take n xs)) (at + n) (drop n xs) ≡ sets out at (take n xs) =
-    by_lt n (length xs) (λ k. let g = f k in sets_past (sets out at (take n xs)) (at + n) (drop n xs) (omega arith)) (λ k. let e : drop n xs ≡ [] = drop_of_length-le xs {i = n} k in rw e) in
-    sym rest ∙ ap (λ (k : ℕ). sets (sets out at (take n xs)) (at + k) (drop n xs)) (sym l) ∙ sym (sets_append out at (take n xs) (drop n xs)) ∙ ap (sets out at) (take-append-drop n xs)
-
-pub copied : (s out mid : List ℕ) (from end at n : ℕ) → n ≡ min (min end (length s) - from) (length out - at) → 0 < n → mid ≡ take (from + n - from) (drop from s)
-    → put_mid at (at + n - at) out mid ≡ sets out at (slice from end s)
-copied s out mid from end at n e h m =
-    let z : from + n - from ≡ n = omega arith in
-    let y : at + n - at ≡ n = omega arith in
-    let w : length mid ≡ n = rw (m, z) (simp (length-take, length-drop) (omega arith)) in
-    let long : length (slice from end s) ≡ min end (length s) - from = simp (length-drop, length-take) in
-    let u : from + n ≤ end = omega arith in
-    let is : mid ≡ take n (slice from end s) = m ∙ rw (z, ← (drop-take from n s), ← (drop-take from n (take end s)), take-take (from + n) end s u) in
-    rw y (part_set out mid at n w (omega arith) ∙ ap (sets out at) is ∙ sets_cut out (slice from end s) at n (omega arith) (λ k. omega arith))
-
-pub copied_none : (s out : List ℕ) (from end at n : ℕ) → n ≡ min (min end (length s) - from) (length out - at) → n ≤ 0 → out ≡ sets out at (slice from end s)
-copied_none s out from end at n e h =
-    let long : length (slice from end s) ≡ min end (length s) - from = simp (length-drop, length-take) in
-    sets_cut out (slice from end s) at 0 (omega arith) (λ k. omega arith)
+-- nothing is left where the end is met, that of the bytes or that of the output
+pub copy_end : (s out : List ℕ) (from end at i : ℕ) {n long : ℕ} → n ≡ min (min end (length s) - from) (long - at) → length out ≡ long → n ≤ i
+    → out ≡ sets out (at + i) (slice (from + i) end s)
+copy_end s out from end at i e l h =
+    by_lt (at + i) (length out)
+    (λ k. let e : slice (from + i) end s ≡ [] = drop_of_length-le (take end s) {i = from + i} (simp length-take (omega arith)) in rw e)
+    (λ k. sym (sets_past out (at + i) (slice (from + i) end s) k))

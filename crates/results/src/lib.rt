@@ -27,8 +27,9 @@ pub fn copy(s: &[u8], from: usize, end: usize, out: &mut [u8], at: usize)
 {
     let given = end.min(s.len()).saturating_sub(from);
     let n = given.min(out.len().saturating_sub(at));
-    if 0 < n {
-        out[at..at + n].copy_from_slice(&s[from..from + n]);
+    // byte by byte: `copy_from_slice` would ask C for memmove
+    for i in 0..n {
+        out[at + i] = s[from + i];
     }
 }
 
