@@ -7,7 +7,7 @@ ghost use Rattle.clocks.specs.VClock.{dots_of};
 ghost use Rattle.layout.specs.Clock.{encode_clock};
 ghost use Rattle.dots.specs.Answers.{op_number_in};
 ghost use Rattle.operations.specs.Calls.{gap_named};
-ghost use Rattle.replies.specs.Reply.{if_room, Replies};
+ghost use Rattle.replies.specs.Reply.{fitted, if_room, Replies};
 ghost use Rattle.replies.specs.Named.{named_gap, spent_bytes, spent_of};
 ghost use Rattle.replies.specs.Lent.{unfit_clock, clock_lent};
 ghost use Rattle.replies.specs.Given.{clock_given};
@@ -48,15 +48,23 @@ pub fn put(given: Result<(u32, VClock), Refused>, out: &mut [u8]) -> u64
     ensures { Replies (clock_given (length out.old) given) out.old result out.new }
 {
     match given {
-        Ok((low, c)) => {
-            if out.len() < index(bytes_of(c)) {
-                return packed(Refused::ShortOutput.number(), 0);
-            }
-            fields::put_clock(out, 0, c);
-            packed(0, low)
-        }
+        Ok((low, c)) => put_numbered(0, low, c, out),
         Err(refused) => packed(refused.number(), 0),
     }
+}
+
+// The same by a refusal's number, of which 11 and 12 are none of `Refused`: 0 gives the clock.
+pub fn put_numbered(no: u32, low: u32, c: VClock, out: &mut [u8]) -> u64
+    ensures { Replies (fitted (length out.old) no low (encode_clock (dots_of c))) out.old result out.new }
+{
+    if no != 0 {
+        return packed(no, 0);
+    }
+    if out.len() < index(bytes_of(c)) {
+        return packed(Refused::ShortOutput.number(), 0);
+    }
+    fields::put_clock(out, 0, c);
+    packed(0, low)
 }
 
 // Writes a double-spent dot and its two members, where 20 bytes fit.
